@@ -1,0 +1,111 @@
+// The lent kernel matrix, over plain slices.
+ghost use mathlib.Core.Bool.{Bool};
+ghost use mathlib.Core.Path.{_≡_};
+ghost use Prim.Native.Nat.{_+_, _*_, _≤_, _<_};
+ghost use lib.ListN.{length};
+ghost use Rattle.kernel.specs.Matrix.{entryAt, Matrix};
+ghost use Rattle.kernel.specs.Row.{kernelIndex, Indexed, alikeOf, signedOf, reachOf, rowAt, rowTo};
+
+// Whose kernel it is: with two classes an entry between different labels is negated.
+pub enum Kind {
+    TwoClass,
+    OneClass,
+}
+
+// The entry of column c, row r, of a matrix of side·side entries.
+pub fn entry(m: &[u8], side: usize, c: usize, r: usize) -> f64
+    requires { ⌜ (Matrix side (now m)) × (c < side) × (r < side) ⌝ }
+    ensures { λ x. ⌜ x ≡ entryAt side (now (m .entry)) c r ⌝ }
+{
+    f64::from_bits(wire::word_at(m, 8 * (c * side + r)))
+}
+
+// The kernel index of position k.
+pub fn index_at(u: &[u64], side: usize, n: usize, k: usize) -> usize
+    requires { ⌜ (Indexed side n (now u)) × (k < n) ⌝ }
+    ensures { λ r. ⌜ (r ≡ kernelIndex n (now (u .entry)) k) × (r < side) ⌝ }
+{
+    u[n + k] as usize
+}
+
+pub fn alike(kind: Kind, a: u8, b: u8) -> bool
+    ensures { λ r. ⌜ r ≡ alikeOf kind a b ⌝ }
+{
+    match kind {
+        Kind::TwoClass => a == b,
+        Kind::OneClass => true,
+    }
+}
+
+fn signed(alike: bool, x: f64) -> f64
+    ensures { λ r. ⌜ r ≡ signedOf alike x ⌝ }
+{
+    if alike { x } else { -x }
+}
+
+// The diagonal entry of position k's sample: never negated.
+pub fn self_distance(m: &[u8], side: usize, u: &[u64], n: usize, k: usize) -> f64
+    requires { ⌜ (Matrix side (now m)) × (Indexed side n (now u)) × (k < n) ⌝ }
+    ensures { λ r. ⌜ r ≡ entryAt side (now (m .entry)) (kernelIndex n (now (u .entry)) k) (kernelIndex n (now (u .entry)) k) ⌝ }
+{
+    let c = index_at(u, side, n, k);
+    entry(m, side, c, c)
+}
+
+// An entry of the row of kernel index c and label a, at position k. A loop over k asks for c and a once.
+pub fn reach(
+    kind: Kind,
+    m: &[u8],
+    side: usize,
+    c: usize,
+    a: u8,
+    u: &[u64],
+    n: usize,
+    y: &[u8],
+    k: usize,
+) -> f64
+    requires { ⌜ (Matrix side (now m)) × (Indexed side n (now u)) × (n ≤ length (now y)) × (c < side) × (k < n) ⌝ }
+    ensures { λ r. ⌜ r ≡ reachOf kind side (now (m .entry)) c a n (now (u .entry)) (now (y .entry)) k ⌝ }
+{
+    let r = index_at(u, side, n, k);
+    signed(alike(kind, a, y[k]), entry(m, side, c, r))
+}
+
+// Row i at position k.
+pub fn distance(
+    kind: Kind,
+    m: &[u8],
+    side: usize,
+    u: &[u64],
+    n: usize,
+    y: &[u8],
+    i: usize,
+    k: usize,
+) -> f64
+    requires { ⌜ (Matrix side (now m)) × (Indexed side n (now u)) × (n ≤ length (now y)) × (i < n) × (k < n) ⌝ }
+    ensures { λ r. ⌜ r ≡ rowAt kind side (now (m .entry)) n (now (u .entry)) (now (y .entry)) i k ⌝ }
+{
+    reach(kind, m, side, index_at(u, side, n, i), y[i], u, n, y, k)
+}
+
+// The first places of row i, up to length, into the seventh field of f.
+pub fn distances(
+    f: &mut [f64],
+    kind: Kind,
+    m: &[u8],
+    side: usize,
+    u: &[u64],
+    n: usize,
+    y: &[u8],
+    i: usize,
+    count: usize,
+)
+    requires { ⌜ (Matrix side (now m)) × (Indexed side n (now u)) × (n ≤ length (now y)) × (7 * n ≤ length (now f)) × (i < n) × (count ≤ n) ⌝ }
+    ensures { λ _. ⌜ now (f .exit) ≡ rowTo kind side (now (m .entry)) n (now (u .entry)) (now (y .entry)) i (now (f .entry)) count ⌝ }
+{
+    let c = index_at(u, side, n, i);
+    let a = y[i];
+    for k in 0..count {
+        f[6 * n + k] = reach(kind, m, side, c, a, u, n, y, k);
+    }
+}

@@ -1,0 +1,27 @@
+use mathlib.Core.Path.{_≡_, sym, _∙_}
+use borrow.Author.Tests.{not-true, not-false}
+use Rattle.reconstruct.proofs.Tests.{inner-kept, inner-free}
+use borrow.Author.Needs.{needs}
+use Rattle.reconstruct.proofs.inner.Statement.{statement}
+use Rattle.reconstruct.proofs.inner.Tie as tie
+
+returns : tie.Need-returns
+returns c = rw (← c .before .before .alpha-at .ensures) (inner-kept _ _ _ _ _ (sym (c .before .free-floating .ensures) ∙ not-true _ (c .if1 .taken)))
+
+returns-2 : tie.Need-returns-2
+returns-2 c =
+    rw (← c .before .before .before .before .before .before .alpha-at .ensures)
+    (c .before .before .add-row .ensures ∙ inner-free _ _ _ _ _ (sym (c .before .before .before .before .before .free-floating .ensures) ∙ not-false _ (c .before .before .before .before .if1 .left)))
+
+pub inner-spec : {M : Type 1} → statement M
+inner-spec =
+    tie.close
+    (tie.spec
+    (λ c κs. search needs)
+    (λ c κs. search needs)
+    (λ c. search needs)
+    returns
+    (λ c. search needs)
+    (λ c κs. search needs)
+    (λ c. search needs)
+    returns-2)

@@ -1,0 +1,82 @@
+-- The threshold rho, and with the nu rule its companion r (the rule, section 'rho').
+use Prim.Native.Nat.{ℕ, zero, suc, _+_}
+use mathlib.Core.Bool.{Bool, true, false, cond}
+use mathlib.Core.List.{List}
+use lib.Dec.{eqb, ltb}
+use lib.Ieee.{Float, nan, inf, binary64, ofBits, neg, add, sub, mul, div}
+use lib.ListN.{getD}
+use Rattle.alpha.specs.Weight.{atUpper, atLower}
+use Rattle.alpha.specs.declared.Alpha.{Alpha}
+use Rattle.floats.specs.Helpers.{maxOf, minOf, wholeAsFloat}
+use Rattle.state.specs.Fields.{alphaIn}
+use Rattle.rho.specs.declared.Share.{Share}
+use Rattle.rho.specs.declared.Level.{Level}
+
+abbrev pub one : Float
+one = ofBits binary64 0x3ff0_0000_0000_0000
+
+abbrev pub minusOne : Float
+minusOne = neg one
+
+abbrev pub two : Float
+two = ofBits binary64 0x4000_0000_0000_0000
+
+-- before the first position
+abbrev pub nothing : Share
+nothing = record { free = 0; sum = ofBits binary64 0; ub = inf false; lb = inf true }
+
+abbrev pub freed : Share → Float → Share
+freed s g = record { free = s .free + 1; sum = add binary64 (s .sum) g; ub = s .ub; lb = s .lb }
+
+abbrev pub lbRaised : Share → Float → Share
+lbRaised s g = record { free = s .free; sum = s .sum; ub = s .ub; lb = maxOf (s .lb) g }
+
+abbrev pub ubLowered : Share → Float → Share
+ubLowered s g = record { free = s .free; sum = s .sum; ub = minOf (s .ub) g; lb = s .lb }
+
+-- raised, though it starts at infinity: so it stays there
+abbrev pub ubRaised : Share → Float → Share
+ubRaised s g = record { free = s .free; sum = s .sum; ub = maxOf (s .ub) g; lb = s .lb }
+
+-- C rule: y times the gradient
+abbrev pub signed : Bool → Float → Float
+signed positive g = mul binary64 (cond positive one minusOne) g
+
+-- C rule: one position
+unfoldable pub weighedC : Bool → Alpha → Float → Share → Share
+weighedC positive w yg s =
+    cond (atUpper w)
+    (cond positive (lbRaised s yg) (ubLowered s yg))
+    (cond (atLower w) (cond positive (ubLowered s yg) (lbRaised s yg)) (freed s yg))
+
+-- nu rule: one position of the label
+unfoldable pub weighedNu : Alpha → Float → Share → Share
+weighedNu w g s = cond (atUpper w) (lbRaised s g) (cond (atLower w) (ubRaised s g) (freed s g))
+
+abbrev pub positiveIn : List ℕ → ℕ → Bool
+positiveIn y k = eqb (getD y k 0) 1
+
+unfoldable pub shareC : ℕ → List Float → List ℕ → ℕ → Share
+shareC n f y zero = nothing
+shareC n f y (suc k) = weighedC (positiveIn y k) (alphaIn n f k) (signed (positiveIn y k) (getD f k nan)) (shareC n f y k)
+
+-- of the positions of one label, 1 or 0
+unfoldable pub joinedNu : Bool → Alpha → Float → Share → Share
+joinedNu counts w g s = cond counts (weighedNu w g s) s
+
+unfoldable pub shareNu : ℕ → List Float → List ℕ → ℕ → ℕ → Share
+shareNu n f y label zero = nothing
+shareNu n f y label (suc k) = joinedNu (eqb (getD y k 0) label) (alphaIn n f k) (getD f k nan) (shareNu n f y label k)
+
+-- the mean of the free ones, or the middle of the bounds
+unfoldable pub middle : Share → Float
+middle s = cond (ltb 0 (s .free)) (div binary64 (s .sum) (wholeAsFloat (s .free))) (div binary64 (add binary64 (s .ub) (s .lb)) two)
+
+abbrev pub rhoC : ℕ → List Float → List ℕ → ℕ → Float
+rhoC n f y a = middle (shareC n f y a)
+
+abbrev pub levelOf : Float → Float → Level
+levelOf a b = record { rho = div binary64 (sub binary64 a b) two; r = div binary64 (add binary64 a b) two }
+
+abbrev pub rhoNu : ℕ → List Float → List ℕ → ℕ → Level
+rhoNu n f y a = levelOf (middle (shareNu n f y 1 a)) (middle (shareNu n f y 0 a))

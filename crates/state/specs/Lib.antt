@@ -1,0 +1,3 @@
+pub mod Lists
+pub mod Fields
+pub mod Moving

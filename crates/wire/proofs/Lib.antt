@@ -1,0 +1,2 @@
+pub mod Nan
+pub mod Back

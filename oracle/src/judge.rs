@@ -1,0 +1,98 @@
+//! The refusals that are given before anything runs.
+
+use crate::problem::{Entry, Problem, LIMIT, LIMIT_BITS, MOST_PASSES, MOST_SAMPLES};
+
+/// A refusal: its number, and the first offending index for 3 to 7, else 0.
+#[derive(Clone, Copy, Debug, PartialEq, Eq)]
+pub struct Refusal {
+    pub number: u64,
+    pub index: u64,
+}
+
+/// The refusal of the lowest number that applies, if one of 1 to 10 does.
+pub fn judge(p: &Problem) -> Option<Refusal> {
+    (1..=10).find_map(|number| refused(p, number))
+}
+
+/// Every number of 1 to 10 that applies by itself, lowest first.
+pub fn faults(p: &Problem) -> Vec<u64> {
+    (1..=10)
+        .filter(|number| refused(p, *number).is_some())
+        .collect()
+}
+
+/// Whether the refusal of that number applies, whatever the others say.
+///
+/// Lists are scanned as they are lent, so each number can be asked for alone
+/// even where lengths are wrong.
+fn refused(p: &Problem, number: u64) -> Option<Refusal> {
+    if !p.entry.can_refuse(number) {
+        return None;
+    }
+    let index = match number {
+        1 => whole(p.n == 0 || p.n > MOST_SAMPLES),
+        2 => whole(!sized(p)),
+        3 => first(p.patterns(), |x| magnitude(x) > LIMIT_BITS),
+        4 => first(p.labels.iter(), |y| **y > 1),
+        5 => match p.entry {
+            Entry::C => first([p.cpos, p.cneg].iter(), |c| bad_ceiling(**c)),
+            _ => first(p.ceilings.iter(), |c| bad_ceiling(**c)),
+        },
+        6 => first(p.alphas.iter().zip(&p.ceilings), |(a, c)| {
+            a.is_nan() || **a < 0.0 || *a > *c
+        }),
+        7 => first(p.linear.iter(), |x| !x.is_finite()),
+        8 => whole(!p.eps.is_finite() || p.eps.is_sign_negative()),
+        9 => whole(p.nu.is_nan() || p.nu <= 0.0 || p.nu > 1.0),
+        10 => whole(p.budget == 0 || p.budget > MOST_PASSES),
+        _ => None,
+    };
+    index.map(|index| Refusal { number, index })
+}
+
+/// The index of a refusal that isn't about one place of a list.
+fn whole(applies: bool) -> Option<u64> {
+    applies.then_some(0)
+}
+
+fn first<T>(items: impl Iterator<Item = T>, bad: impl Fn(&T) -> bool) -> Option<u64> {
+    items
+        .enumerate()
+        .find(|(_, x)| bad(x))
+        .map(|(k, _)| k as u64)
+}
+
+fn magnitude(pattern: &u64) -> u64 {
+    pattern & !(1 << 63)
+}
+
+fn bad_ceiling(c: f64) -> bool {
+    c.is_nan() || c <= 0.0 || c > LIMIT
+}
+
+/// Whether every list that the entry takes is as long as n asks. In 128 bits,
+/// so that no n wraps round to a length that seems right.
+fn sized(p: &Problem) -> bool {
+    let n = u128::from(p.n);
+    let is_n = |len: usize| len as u128 == n;
+    let inputs = match p.entry {
+        Entry::General => {
+            is_n(p.labels.len())
+                && is_n(p.ceilings.len())
+                && is_n(p.alphas.len())
+                && is_n(p.linear.len())
+        }
+        Entry::C | Entry::Nu => is_n(p.labels.len()),
+        Entry::OneClass => true,
+    };
+    // 8·n·n is below 2^128 only for n below 2^62; no list is longer than that
+    let square = n.checked_mul(n).and_then(|q| q.checked_mul(8));
+    let room = |len: u64, each: u128| u128::from(len) >= each * n;
+    inputs
+        && square == Some(p.matrix.len() as u128)
+        && room(p.crate_len, 1)
+        && room(p.home_len, 1)
+        && room(p.scratch_floats, 7)
+        && room(p.scratch_numbers, 2)
+        && room(p.scratch_bytes, 1)
+}

@@ -1,0 +1,113 @@
+//! The oracle's command line.
+
+use oracle::marks::Tally;
+use oracle::{draw, record, show, solve, worked, Outcome};
+use std::process::ExitCode;
+use std::time::Instant;
+
+const HELP: &str = "oracle COMMAND
+
+  worked            run the worked examples; exit 1 on a difference
+  record FILE       write the file of recorded answers
+  check FILE        recompute every record of the file; exit 1 on a difference
+  draw SEED COUNT   solve COUNT problems drawn from SEED, SEED + 1, ..
+                    and count what they reach
+  show SEED         one drawn problem, its answer and its passes
+";
+
+fn main() -> ExitCode {
+    let args: Vec<String> = std::env::args().skip(1).collect();
+    let args: Vec<&str> = args.iter().map(String::as_str).collect();
+    let result = match args.as_slice() {
+        ["worked"] => run_worked(),
+        ["record", path] => run_record(path),
+        ["check", path] => run_check(path),
+        ["draw", seed, count] => number(seed).and_then(|s| run_draw(s, number(count)?)),
+        ["show", seed] => number(seed).map(run_show),
+        _ => Err(HELP.to_string()),
+    };
+    match result {
+        Ok(()) => ExitCode::SUCCESS,
+        Err(message) => {
+            eprintln!("{message}");
+            ExitCode::FAILURE
+        }
+    }
+}
+
+fn number(text: &str) -> Result<u64, String> {
+    text.parse().map_err(|_| format!("{text} isn't a number"))
+}
+
+fn run_worked() -> Result<(), String> {
+    let all = worked::worked();
+    let mut differ = 0;
+    for example in &all {
+        println!("{}", example.given);
+        println!("  expected  {}", example.expected);
+        println!("  came      {}", example.came);
+        if !example.holds() {
+            println!("  DIFFERS");
+            differ += 1;
+        }
+    }
+    println!("{} examples, {differ} differ", all.len());
+    if differ == 0 {
+        Ok(())
+    } else {
+        Err(format!("{differ} of {} examples differ", all.len()))
+    }
+}
+
+fn run_record(path: &str) -> Result<(), String> {
+    let (records, tally) = record::chosen();
+    let bytes = record::file(&records);
+    std::fs::write(path, &bytes).map_err(|e| format!("{path}: {e}"))?;
+    tell(&tally);
+    println!("{} records, {} bytes", records.len(), bytes.len());
+    Ok(())
+}
+
+fn run_check(path: &str) -> Result<(), String> {
+    let bytes = std::fs::read(path).map_err(|e| format!("{path}: {e}"))?;
+    let tally = record::check(&bytes).map_err(|wrong| wrong.join("\n"))?;
+    tell(&tally);
+    println!("every answer came out as it is recorded");
+    Ok(())
+}
+
+fn run_draw(seed: u64, count: u64) -> Result<(), String> {
+    let start = Instant::now();
+    let mut tally = Tally::default();
+    let mut faults = 0;
+    for k in 0..count {
+        let seed = seed.wrapping_add(k);
+        let p = draw(seed);
+        let answer = solve(&p, false);
+        if let Outcome::Fault(message) = &answer.outcome {
+            eprintln!("seed {seed}: {message}");
+            faults += 1;
+        }
+        tally.add(&p, &answer);
+    }
+    tell(&tally);
+    println!("{:.2} seconds", start.elapsed().as_secs_f64());
+    if faults == 0 {
+        Ok(())
+    } else {
+        Err(format!("the oracle itself failed {faults} times"))
+    }
+}
+
+fn run_show(seed: u64) {
+    let p = draw(seed);
+    print!("{}", show::problem(&p));
+    println!();
+    print!("{}", show::answer(&solve(&p, true)));
+}
+
+fn tell(tally: &Tally) {
+    for line in tally.lines() {
+        println!("{line}");
+    }
+}

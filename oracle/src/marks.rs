@@ -1,0 +1,286 @@
+//! What a set of problems reaches: each answer carries marks, and a tally
+//! counts them.
+
+use crate::judge::faults;
+use crate::problem::{Entry, Problem, MOST_PASSES};
+use crate::run::{canonical, Accepted, Answer, Outcome, Reason};
+
+/// How much a tally must have of a mark.
+#[derive(Clone, Copy, Debug, PartialEq, Eq)]
+pub enum Owed {
+    /// A set that never reaches it isn't worth much.
+    Some,
+    /// It has never been seen, or must never be.
+    None,
+}
+
+/// Every mark by name, in a fixed order.
+pub fn names() -> Vec<(String, Owed)> {
+    let mut all = Vec::new();
+    let mut some = |name: String| all.push((name, Owed::Some));
+    for entry in Entry::ALL {
+        some(format!("accepted, {}", entry.name()));
+    }
+    for number in 1..=11 {
+        for entry in Entry::ALL {
+            if entry.can_refuse(number) {
+                some(format!("refusal {number}, {}", entry.name()));
+            }
+        }
+    }
+    some("refused for several reasons at once".into());
+    some("a refusal at an index that isn't 0".into());
+    for (name, _) in ACCEPTED {
+        some(format!("accepted: {name}"));
+    }
+    all.push(("accepted: weight NaN or infinite".into(), Owed::None));
+    all.push(("second look not optimal".into(), Owed::None));
+    all.push(("fault of the oracle".into(), Owed::None));
+    all
+}
+
+/// The marks of one answer, in the order of [`names`].
+pub fn marks(p: &Problem, answer: &Answer) -> Vec<bool> {
+    let mut all = Vec::new();
+    let accepted = answer.accepted();
+    let refusal = answer.refusal();
+    for entry in Entry::ALL {
+        all.push(accepted.is_some() && p.entry == entry);
+    }
+    for number in 1..=11 {
+        for entry in Entry::ALL {
+            if entry.can_refuse(number) {
+                all.push(p.entry == entry && refusal.is_some_and(|r| r.number == number));
+            }
+        }
+    }
+    all.push(refusal.is_some() && faults(p).len() > 1);
+    all.push(refusal.is_some_and(|r| r.index != 0));
+    for (_, test) in ACCEPTED {
+        all.push(accepted.is_some_and(|a| test(p, answer, a)));
+    }
+    all.push(accepted.is_some_and(|a| a.weights.iter().any(|w| !w.is_finite())));
+    all.push(answer.events.second_not_optimal > 0);
+    all.push(matches!(answer.outcome, Outcome::Fault(_)));
+    all
+}
+
+type Test = fn(&Problem, &Answer, &Accepted) -> bool;
+
+const ACCEPTED: &[(&str, Test)] = &[
+    ("reason threshold", |_, _, a| a.reason == Reason::Threshold),
+    ("reason iterations", |_, _, a| {
+        a.reason == Reason::Iterations
+    }),
+    ("no pass", |_, _, a| a.iterations == 0),
+    ("one pass", |_, _, a| a.iterations == 1),
+    ("above 100 passes", |_, _, a| a.iterations > 100),
+    ("above 1000 passes", |_, _, a| a.iterations > 1000),
+    ("budget 10,000,000", |p, _, _| p.budget == MOST_PASSES),
+    ("n 1", |p, _, _| p.n == 1),
+    ("n 11 to 24", |p, _, _| (11..=24).contains(&p.n)),
+    ("n above 24", |p, _, _| p.n > 24),
+    ("more room than must be", |p, _, _| {
+        p.crate_len > p.n || p.home_len > p.n || p.scratch_floats > 7 * p.n
+    }),
+    ("matrix not symmetric", |p, _, _| !is_symmetric(p)),
+    ("entry of magnitude 2^1000", |p, _, _| {
+        p.entries().iter().any(|x| x.abs() == crate::problem::LIMIT)
+    }),
+    ("eps 0", |p, _, _| p.eps == 0.0),
+    ("all labels equal", |p, _, _| {
+        p.entry.has_labels() && p.labels.iter().all(|y| *y == p.labels[0])
+    }),
+    ("ceilings differ", |p, _, _| ceilings_differ(p)),
+    ("nu rule in the general entry", |p, _, _| {
+        p.entry == Entry::General && p.nu_rule
+    }),
+    ("nu·n is whole", |p, _, _| {
+        matches!(p.entry, Entry::Nu | Entry::OneClass) && (p.nu * p.n as f64).fract() == 0.0
+    }),
+    ("nu 1", |p, _, _| p.nu == 1.0),
+    ("shrinking off", |p, _, _| !p.shrinking),
+    ("walked", |_, w, _| w.events.walks > 0),
+    ("walked, nu rule", |_, w, a| {
+        w.events.walks > 0 && a.r.is_some()
+    }),
+    ("shrunk", |p, w, _| {
+        w.events.least_active.is_some_and(|k| k < p.n)
+    }),
+    ("shrunk, nu rule", |p, w, a| {
+        w.events.least_active.is_some_and(|k| k < p.n) && a.r.is_some()
+    }),
+    ("no position left active", |_, w, _| {
+        w.events.least_active == Some(0)
+    }),
+    ("swapped", |_, w, _| w.events.swaps > 0),
+    ("swapped, nu rule", |_, w, a| {
+        w.events.swaps > 0 && a.r.is_some()
+    }),
+    ("reconstructed, first branch", |_, w, _| {
+        w.events.first_branch > 0
+    }),
+    ("reconstructed, second branch", |_, w, _| {
+        w.events.second_branch > 0
+    }),
+    ("reconstructed at an optimal end", |_, w, a| {
+        a.reason == Reason::Threshold && rebuilt_at_end(w)
+    }),
+    ("reconstructed when the budget ran out", |_, w, a| {
+        a.reason == Reason::Iterations && rebuilt_at_end(w)
+    }),
+    ("unshrunk", |_, w, _| w.events.unshrinks > 0),
+    ("unshrunk with positions given up", |_, w, _| {
+        w.events.unshrinks_from_fewer > 0
+    }),
+    ("i no longer at upper", |_, w, _| w.events.turned_i[0] > 0),
+    ("i newly at upper", |_, w, _| w.events.turned_i[1] > 0),
+    ("j no longer at upper", |_, w, _| w.events.turned_j[0] > 0),
+    ("j newly at upper", |_, w, _| w.events.turned_j[1] > 0),
+    ("order changed", |_, _, a| {
+        a.order.iter().enumerate().any(|(k, s)| k != *s)
+    }),
+    ("order not its own inverse", |_, _, a| {
+        !is_own_inverse(&a.order)
+    }),
+    ("order not its own inverse, nu rule", |_, _, a| {
+        a.r.is_some() && !is_own_inverse(&a.order)
+    }),
+    ("readings differ", |_, _, a| readings_differ(a)),
+    ("rho NaN", |_, _, a| a.rho.is_nan()),
+    ("rho infinite", |_, _, a| a.rho.is_infinite()),
+    ("rho -0", |_, _, a| is_negative_zero(a.rho)),
+    ("obj NaN", |_, _, a| a.obj.is_nan()),
+    ("obj infinite", |_, _, a| a.obj.is_infinite()),
+    ("gradient NaN", |_, _, a| {
+        a.gradient.iter().any(|x| x.is_nan())
+    }),
+    ("gradient infinite", |_, _, a| {
+        a.gradient.iter().any(|x| x.is_infinite())
+    }),
+    ("walked, gradient not finite", |_, w, a| {
+        w.events.walks > 0 && a.gradient.iter().any(|x| !x.is_finite())
+    }),
+    ("r finite", |_, _, a| a.r.is_some_and(f64::is_finite)),
+    ("r not finite", |_, _, a| {
+        a.r.is_some_and(|r| !r.is_finite())
+    }),
+    ("weight -0", |_, _, a| {
+        a.weights.iter().any(|w| is_negative_zero(*w))
+    }),
+    ("weight below 0", |_, _, a| {
+        a.weights.iter().any(|w| *w < 0.0)
+    }),
+    ("weight above its place's ceiling", |p, _, a| {
+        (0..a.weights.len()).any(|k| a.weights[k] > ceiling_of_place(p, k))
+    }),
+    ("coefficient NaN", |_, _, a| {
+        a.home.iter().any(|w| w.is_nan())
+    }),
+    ("zero pair", |_, w, _| w.zero_pair),
+    ("zero pair and rho 0", |_, w, a| w.zero_pair && a.rho == 0.0),
+];
+
+fn is_symmetric(p: &Problem) -> bool {
+    let n = p.n as usize;
+    let m = p.entries();
+    (0..n * n).all(|k| m[k] == m[(k % n) * n + k / n])
+}
+
+fn ceilings_differ(p: &Problem) -> bool {
+    match p.entry {
+        Entry::General => p.ceilings.iter().any(|c| *c != p.ceilings[0]),
+        Entry::C => p.cpos != p.cneg,
+        _ => false,
+    }
+}
+
+/// The ceiling that the place has by the samples' first order.
+fn ceiling_of_place(p: &Problem, k: usize) -> f64 {
+    match p.entry {
+        Entry::General => p.ceilings[k],
+        Entry::C if p.labels[k] == 1 => p.cpos,
+        Entry::C => p.cneg,
+        Entry::Nu | Entry::OneClass => 1.0,
+    }
+}
+
+/// Whether the run reconstructed beyond its return to all positions.
+fn rebuilt_at_end(w: &Answer) -> bool {
+    w.events.first_branch + w.events.second_branch > w.events.unshrinks_from_fewer
+}
+
+pub fn is_own_inverse(order: &[usize]) -> bool {
+    order.iter().enumerate().all(|(k, s)| order[*s] == k)
+}
+
+pub fn readings_differ(a: &Accepted) -> bool {
+    a.crate_reading
+        .iter()
+        .zip(&a.home)
+        .any(|(x, y)| canonical(*x) != canonical(*y))
+}
+
+fn is_negative_zero(x: f64) -> bool {
+    x.to_bits() == 1 << 63
+}
+
+/// Counts of marks over a set.
+#[derive(Clone, Debug, Default)]
+pub struct Tally {
+    pub total: u64,
+    pub accepted: u64,
+    pub passes: u64,
+    pub counts: Vec<u64>,
+}
+
+impl Tally {
+    pub fn add(&mut self, p: &Problem, answer: &Answer) -> Vec<bool> {
+        let marks = marks(p, answer);
+        self.counts.resize(marks.len(), 0);
+        for (count, mark) in self.counts.iter_mut().zip(&marks) {
+            *count += u64::from(*mark);
+        }
+        self.total += 1;
+        if let Some(a) = answer.accepted() {
+            self.accepted += 1;
+            self.passes += a.iterations;
+        }
+        marks
+    }
+
+    /// How many carry the mark of that name.
+    pub fn count(&self, name: &str) -> u64 {
+        let k = names().iter().position(|(m, _)| m == name);
+        let k = k.unwrap_or_else(|| panic!("there is no mark {name}"));
+        self.counts.get(k).copied().unwrap_or(0)
+    }
+
+    /// The marks that should be there and aren't, and those that are there and
+    /// shouldn't.
+    pub fn wrong(&self) -> Vec<String> {
+        let mut wrong = Vec::new();
+        for (k, (name, owed)) in names().into_iter().enumerate() {
+            let count = self.counts.get(k).copied().unwrap_or(0);
+            if (count == 0) == (owed == Owed::Some) {
+                wrong.push(name);
+            }
+        }
+        wrong
+    }
+
+    /// One line a mark.
+    pub fn lines(&self) -> Vec<String> {
+        let mut lines = vec![
+            format!("{:>9}  problems", self.total),
+            format!("{:>9}  accepted", self.accepted),
+            format!("{:>9}  refused", self.total - self.accepted),
+            format!("{:>9}  passes in all", self.passes),
+        ];
+        for (k, (name, _)) in names().into_iter().enumerate() {
+            let count = self.counts.get(k).copied().unwrap_or(0);
+            lines.push(format!("{count:>9}  {name}"));
+        }
+        lines
+    }
+}

@@ -1,0 +1,151 @@
+//! What a caller lends and asks.
+
+/// The largest magnitude of a kernel entry or a ceiling, 2^1000.
+pub const LIMIT: f64 = f64::from_bits(LIMIT_BITS);
+pub const LIMIT_BITS: u64 = 0x7e70_0000_0000_0000;
+
+/// The largest n that is accepted.
+pub const MOST_SAMPLES: u64 = 512;
+
+/// The largest budget that is accepted.
+pub const MOST_PASSES: u64 = 10_000_000;
+
+/// Which of the four calls is made.
+#[derive(Clone, Copy, Debug, PartialEq, Eq)]
+pub enum Entry {
+    General,
+    C,
+    Nu,
+    OneClass,
+}
+
+impl Entry {
+    pub const ALL: [Entry; 4] = [Entry::General, Entry::C, Entry::Nu, Entry::OneClass];
+
+    /// The entry's number in a record.
+    pub fn number(self) -> u64 {
+        self as u64
+    }
+
+    pub fn from_number(number: u64) -> Option<Entry> {
+        Entry::ALL.get(usize::try_from(number).ok()?).copied()
+    }
+
+    pub fn name(self) -> &'static str {
+        match self {
+            Entry::General => "general",
+            Entry::C => "C",
+            Entry::Nu => "nu",
+            Entry::OneClass => "one-class",
+        }
+    }
+
+    pub fn has_labels(self) -> bool {
+        self != Entry::OneClass
+    }
+
+    /// Whether this entry can answer with the refusal of that number.
+    pub fn can_refuse(self, number: u64) -> bool {
+        match number {
+            1..=3 | 8 | 10 | 11 => true,
+            4 => self.has_labels(),
+            5 => matches!(self, Entry::General | Entry::C),
+            6 | 7 => self == Entry::General,
+            9 => matches!(self, Entry::Nu | Entry::OneClass),
+            _ => false,
+        }
+    }
+}
+
+/// One call with all that is lent to it. Fields that its entry doesn't take
+/// are empty or zero, and nothing looks at them.
+///
+/// Only the lengths of the result lists and of the scratch are here: a run
+/// doesn't read what stands in them.
+#[derive(Clone, Debug)]
+pub struct Problem {
+    pub entry: Entry,
+    pub n: u64,
+    /// The f64 of column c, row r in the eight bytes from 8·(c·n + r), lowest
+    /// byte first.
+    pub matrix: Vec<u8>,
+    /// 1 positive, 0 negative. All entries but one-class.
+    pub labels: Vec<u8>,
+    /// General entry alone, as are the next three.
+    pub ceilings: Vec<f64>,
+    pub alphas: Vec<f64>,
+    pub linear: Vec<f64>,
+    pub nu_rule: bool,
+    /// Ceiling of the positive samples. C entry.
+    pub cpos: f64,
+    /// Ceiling of the negative samples. C entry.
+    pub cneg: f64,
+    /// Nu and one-class entries.
+    pub nu: f64,
+    pub eps: f64,
+    pub shrinking: bool,
+    pub budget: u64,
+    pub crate_len: u64,
+    pub home_len: u64,
+    pub scratch_floats: u64,
+    pub scratch_numbers: u64,
+    pub scratch_bytes: u64,
+}
+
+impl Problem {
+    /// A problem over the matrix of n columns, with every result list and
+    /// scratch list exactly as long as it must be and no label, ceiling or
+    /// parameter yet.
+    pub fn over(entry: Entry, n: usize, entries: &[f64]) -> Problem {
+        let mut p = Problem {
+            entry,
+            n: n as u64,
+            matrix: entries.iter().flat_map(|x| x.to_le_bytes()).collect(),
+            labels: Vec::new(),
+            ceilings: Vec::new(),
+            alphas: Vec::new(),
+            linear: Vec::new(),
+            nu_rule: false,
+            cpos: 0.0,
+            cneg: 0.0,
+            nu: 0.0,
+            eps: 0.0,
+            shrinking: false,
+            budget: 1,
+            crate_len: 0,
+            home_len: 0,
+            scratch_floats: 0,
+            scratch_numbers: 0,
+            scratch_bytes: 0,
+        };
+        p.lend_exactly();
+        p
+    }
+
+    /// Makes the result lists and the scratch as long as n asks, no longer.
+    pub fn lend_exactly(&mut self) {
+        self.crate_len = self.n;
+        self.home_len = self.n;
+        self.scratch_floats = self.n.saturating_mul(7);
+        self.scratch_numbers = self.n.saturating_mul(2);
+        self.scratch_bytes = self.n;
+    }
+
+    /// The eight-byte patterns of the matrix. Bytes that don't fill a last
+    /// eight are passed over.
+    pub fn patterns(&self) -> impl Iterator<Item = u64> + '_ {
+        self.matrix
+            .chunks_exact(8)
+            .map(|b| u64::from_le_bytes(b.try_into().unwrap()))
+    }
+
+    /// The matrix entries, in the order in which they are lent.
+    pub fn entries(&self) -> Vec<f64> {
+        self.patterns().map(f64::from_bits).collect()
+    }
+
+    /// Puts a pattern in place of matrix entry k.
+    pub fn set_pattern(&mut self, k: usize, pattern: u64) {
+        self.matrix[8 * k..8 * k + 8].copy_from_slice(&pattern.to_le_bytes());
+    }
+}

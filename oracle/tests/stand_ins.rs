@@ -1,0 +1,88 @@
+//! What the solver leans on behaves as the crates it stands in for.
+
+use linfa::{forget_zero_pair, met_zero_pair, Float};
+use linfa_kernel::Kernel;
+use linfa_svm::classification::fit_c;
+use linfa_svm::regression;
+use linfa_svm::{SeparatingHyperplane, SolverParams};
+use ndarray::ArrayView2;
+
+fn bits(x: f64) -> u64 {
+    x.to_bits()
+}
+
+#[test]
+fn max_and_min_pass_over_nan() {
+    assert_eq!(<f64 as Float>::max(f64::NAN, 1.0), 1.0);
+    assert_eq!(<f64 as Float>::max(1.0, f64::NAN), 1.0);
+    assert_eq!(
+        <f64 as Float>::min(f64::NAN, f64::NEG_INFINITY),
+        f64::NEG_INFINITY
+    );
+    assert!(<f64 as Float>::min(f64::NAN, f64::NAN).is_nan());
+    assert_eq!(<f64 as Float>::max(2.0, 3.0), 3.0);
+    assert_eq!(<f64 as Float>::min(2.0, 3.0), 2.0);
+}
+
+#[test]
+fn two_zeros_of_different_sign_are_noted_and_the_first_is_kept() {
+    forget_zero_pair();
+    assert_eq!(bits(<f64 as Float>::max(0.0, 0.0)), bits(0.0));
+    assert_eq!(bits(<f64 as Float>::min(-0.0, -0.0)), bits(-0.0));
+    assert_eq!(<f64 as Float>::max(-0.0, 1.0), 1.0);
+    assert!(!met_zero_pair());
+    assert_eq!(bits(<f64 as Float>::max(-0.0, 0.0)), bits(-0.0));
+    assert!(met_zero_pair());
+    forget_zero_pair();
+    assert!(!met_zero_pair());
+    assert_eq!(bits(<f64 as Float>::min(0.0, -0.0)), bits(0.0));
+    assert!(met_zero_pair());
+}
+
+#[test]
+fn a_column_is_read_as_it_is_lent() {
+    let k = Kernel::given(2, vec![1.0, 2.0, 3.0, 4.0]);
+    assert_eq!(k.column(0), [1.0, 2.0]);
+    assert_eq!(k.column(1), [3.0, 4.0]);
+    assert_eq!((k.diagonal()[0], k.diagonal()[1]), (1.0, 4.0));
+    assert!(!k.is_linear());
+}
+
+fn params() -> SolverParams<f64> {
+    SolverParams {
+        eps: 1e-3,
+        shrinking: false,
+        budget: 100,
+    }
+}
+
+#[test]
+fn the_support_vectors_are_the_samples_with_a_weight() {
+    // the third sample stands far on its own side and gets no weight
+    let x = [1.0, -1.0, 5.0];
+    let entries = (0..9).map(|k| x[k / 3] * x[k % 3]).collect();
+    let kernel = Kernel::given(3, entries);
+    let dataset = ArrayView2::from_rows(3, 1, &x);
+    let labels = [true, false, true];
+    let svm = fit_c(params(), dataset, kernel, &labels, 1.0, 1.0);
+    assert_eq!(svm.alpha, [0.5, -0.5, 0.0]);
+    assert_eq!(svm.nsupport(), 2);
+    match svm.sep_hyperplane() {
+        SeparatingHyperplane::WeightedCombination(rows) => {
+            assert_eq!(rows.items(), [1.0, -1.0]);
+        }
+        other => panic!("{other:?}"),
+    }
+}
+
+#[test]
+fn the_nu_fit_of_regression_folds_its_two_halves() {
+    let x = [1.0, 2.0, 3.0];
+    let entries = (0..9).map(|k| x[k / 3] * x[k % 3]).collect();
+    let kernel = Kernel::given(3, entries);
+    let dataset = ArrayView2::from_rows(3, 1, &x);
+    let svm = regression::fit_nu(params(), dataset, kernel, &[1.0, 2.0, 3.0], 0.5, 1.0);
+    assert_eq!(svm.alpha.len(), 3);
+    assert!(svm.r().is_none());
+    assert!(svm.alpha.iter().all(|a| a.abs() <= 1.0));
+}
