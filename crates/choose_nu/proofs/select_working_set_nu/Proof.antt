@@ -1,0 +1,36 @@
+use mathlib.Core.Bool.{true, false}
+use denote.Ref.{now}
+use Rattle.partner.proofs.Steps.{by-label}
+use Rattle.state.specs.Lists.{problem, state}
+use Rattle.choose_nu.specs.Choice.{risen, choiceNu}
+use Rattle.choose_nu.proofs.Rule.{lead-below}
+use borrow.Author.Needs.{needs}
+use Rattle.choose_nu.proofs.select_working_set_nu.Statement.{statement}
+use Rattle.choose_nu.proofs.select_working_set_nu.Tie as tie
+
+chosen-requires : tie.Need-chosen-requires
+chosen-requires c κs =
+    let a = c .before .before .before .before .before .before .before .before .before .before .before .before .before .before .args in
+    let w = lead-below (problem (a .n) (a .side) (a .kind) (now (a .m))) (state (now (a .f)) (now (a .u)) (now (a .y))) (a .active) (a .n) (c .before .before .before .before .before .before .before .before .before .before .before .before .before .before .pre .1) in
+    rw (c .before .before .before .before .before .before .before .before .before .max-violating-pair-nu .ensures) (c .before .before .before .before .before .before .before .before .before .before .before .before .before .before .pre .0, c .before .before .before .before .before .before .before .before .before .before .before .before .before .before .pre .1, w true, w false)
+
+returns : tie.Need-returns
+unfolding choiceNu
+returns c =
+    let a = c .before .before .before .before .before .before .before .before .before .before .before .before .before .before .before .args in
+    let p = problem (a .n) (a .side) (a .kind) (now (a .m)) in
+    let s = state (now (a .f)) (now (a .u)) (now (a .y)) in
+    rw (← by-label (risen p s (a .active))) (rw (c .before .max .ensures, c .before .before .before .before .before .before .before .before .before .before .max-violating-pair-nu .ensures) at (c .chosen .ensures))
+
+pub select-working-set-nu-spec : {M : Type 1} → statement M
+select-working-set-nu-spec =
+    tie.close
+    (tie.spec
+    (λ c κs. search needs)
+    (λ c. search needs)
+    (λ c. search needs)
+    (λ c. search needs)
+    (λ c. search needs)
+    (λ c κs. search needs)
+    chosen-requires
+    returns)

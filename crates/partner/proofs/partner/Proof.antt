@@ -1,0 +1,58 @@
+use Prim.Native.Nat.{_≤_, _<_, _-_}
+use mathlib.Core.Path.{_≡_, refl, _∙_}
+use native.Mathlib.Numerals.{add-one}
+use native.Mathlib.Omega.{arith}
+use denote.Ref.{now}
+use lib.Ieee.{ofBits, div}
+use Rattle.state.specs.Lists.{problem, state}
+use Rattle.state.specs.Fields.{positive}
+use Rattle.partner.specs.Lead.{allAfter}
+use Rattle.partner.proofs.Steps.{own-index, after-leads}
+use borrow.Author.Needs.{needs}
+use Rattle.partner.proofs.partner.Statement.{statement}
+use Rattle.partner.proofs.partner.Tie as tie
+
+abbrev Inv-loop : tie.InvT-loop
+Inv-loop f u y n side kind m floor active lp lq e₀ j₀ e j = (j ≤ active) × (e ≡ allAfter (problem n side kind m) (state f u y) floor lp lq j)
+
+abbrev μ-loop : tie.MeasureT-loop
+μ-loop f u y n side kind m floor active lp lq e₀ j₀ e j = active - j
+
+loop-holds : tie.Need-loop-holds Inv-loop μ-loop
+unfolding allAfter div ofBits
+loop-holds c = (search needs, refl)
+
+weighed-after-requires : tie.Need-weighed-after-requires Inv-loop μ-loop
+weighed-after-requires c κs =
+    let a = c .before .before .before .before .before .before .before .before .before .before .args in
+    let s = state (now (a .f)) (now (a .u)) (now (a .y)) in
+    let l = own-index (a .side) (a .n) s (positive s (c .before .before .before .loop .j)) (a .p) (a .q) (c .before .before .before .before .before .before .before .before .before .before .pre .0 .indexed) (omega arith) (c .before .before .before .before .before .before .before .before .before .before .pre .2) (c .before .before .before .before .before .before .before .before .before .before .pre .3) in
+    (search needs, search needs, rw (c .own .ensures, c .before .before .before .before .before .lead-of .ensures, c .before .before .before .before .lead-of2 .ensures) l)
+
+loop-again : tie.Need-loop-again Inv-loop μ-loop
+unfolding allAfter
+loop-again c = (search needs, rw (add-one, ← c .before .before .before .before .loop .inv .1, ← c .before .own .ensures) (c .weighed-after .ensures))
+
+returns : tie.Need-returns Inv-loop μ-loop
+returns c =
+    let a = c .before .before .before .before .before .before .before .before .args in
+    let e : c .before .loop .j ≡ a .active = omega arith in
+    let s = state (now (a .f)) (now (a .u)) (now (a .y)) in
+    rw e at (c .before .loop .inv .1) ∙ rw (c .before .before .before .lead-of .ensures, c .before .before .lead-of2 .ensures) (after-leads (problem (a .n) (a .side) (a .kind) (now (a .m))) s (a .floor) (a .p) (a .q) (a .active))
+
+pub partner-spec : {M : Type 1} → statement M
+partner-spec =
+    tie.close
+    (tie.spec
+    Inv-loop
+    μ-loop
+    (λ c κs. search needs)
+    (λ c κs. search needs)
+    loop-holds
+    (λ c. search needs)
+    (λ c κs. search needs)
+    weighed-after-requires
+    (λ c. omega (arith, c .before .before .before .before .before .before .before .before .before .before .before .pre .1, c .before .before .before .before .before .before .before .before .before .before .before .pre .0 .indexed .small))
+    (λ c. search needs)
+    loop-again
+    returns)

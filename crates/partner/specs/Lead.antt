@@ -1,0 +1,43 @@
+-- What the loop over the second asks of a lead, read once.
+use Prim.Native.Nat.{ℕ, zero, suc, _+_, _*_}
+use mathlib.Core.Bool.{Bool, true, false, _&&_, Bool·beq, cond}
+use lib.Dec.{eqb}
+use lib.Ieee.{Float, nan, inf, lt}
+use lib.ListN.{getD}
+use Rattle.alpha.specs.Weight.{zero as nought}
+use Rattle.extreme.specs.Best.{nobody, atMost, weighed}
+use Rattle.extreme.specs.declared.Extreme.{Extreme}
+use Rattle.extreme.specs.declared.Found.{Found}
+use Rattle.extreme.specs.declared.Found.the-variants.{At, Nobody}
+use Rattle.kernel.specs.Row.{kernelIndex, reachOf}
+use Rattle.state.specs.Lists.{Problem, State}
+use Rattle.state.specs.Fields.{diagonal, positive}
+use Rattle.partner.specs.Curvature.{curvature, gain}
+use Rattle.partner.specs.Second.{gap}
+use Rattle.partner.specs.Sides.{mayFall}
+use Rattle.partner.specs.declared.Lead.{Lead}
+
+-- of n positions, the lead with value v and holder h
+abbrev pub leadAt : ℕ → State → Float → Found → Lead
+leadAt n s v (At i) =
+    let c = kernelIndex n (s .numbers) i in
+    record { found = true; top = v; index = c; label = getD (s .labels) i 0; diagonal = getD (s .floats) (5 * n + c) nan }
+leadAt n s v Nobody = record { found = false; top = v; index = 0; label = 0; diagonal = nought }
+
+-- the curvature of the lead l and position j
+abbrev pub curveOf : Problem → State → Float → Lead → ℕ → Float
+curveOf p s floor l j =
+    curvature floor (l .diagonal) (diagonal p s j)
+    (reachOf (p .kind) (p .side) (p .matrix) (l .index) (l .label) (p .n) (s .numbers) (s .labels) j)
+    (Bool·beq (eqb (l .label) 1) (positive s j))
+
+-- position j weighed after its lead l
+unfoldable pub weighedAfter : Problem → State → Float → Lead → ℕ → Extreme → Extreme
+weighedAfter p s floor l j e =
+    let d = gap p s (l .top) j in
+    weighed atMost (l .found && (mayFall p s j && lt nought d)) j (gain d (curveOf p s floor l j)) e
+
+-- the first positions weighed after the lead l of the positives and k of the negatives
+unfoldable pub allAfter : Problem → State → Float → Lead → Lead → ℕ → Extreme
+allAfter p s floor l k zero = nobody (inf false)
+allAfter p s floor l k (suc j) = weighedAfter p s floor (cond (positive s j) l k) j (allAfter p s floor l k j)

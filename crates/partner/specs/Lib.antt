@@ -1,0 +1,4 @@
+pub mod Sides
+pub mod Curvature
+pub mod Second
+pub mod Lead

@@ -1,0 +1,252 @@
+// The second of the pair, and the choice, for both rules.
+// The parameters f, u, y are the lent lists, and n, side, kind, m what a run is given: state/specs/Lists.antt.
+ghost use mathlib.Core.Bool.{cond};
+ghost use mathlib.Core.Path.{_≡_};
+ghost use Prim.Native.Nat.{_+_, _*_, _≤_, _<_};
+ghost use lib.Ieee.{nan};
+ghost use lib.ListN.{length, getD};
+ghost use Rattle.extreme.specs.Best.{Below};
+ghost use Rattle.kernel.specs.Row.{kernelIndex, Indexed};
+ghost use Rattle.state.specs.Lists.{problem, state, Ready};
+ghost use Rattle.partner.specs.Sides.{risesOf, fallsOf, riseOf, fallOf};
+ghost use Rattle.partner.specs.Curvature.{curved, curvature, gapOf, gain};
+ghost use Rattle.partner.specs.Second.{leads, second, paired, choice};
+ghost use Rattle.partner.specs.Lead.{leadAt, curveOf, weighedAfter};
+use alpha::Alpha;
+use extreme::Choice;
+use extreme::Extreme;
+use extreme::Found;
+use kernel::Kind;
+
+pub fn may_rise(pos: bool, w: Alpha) -> bool
+    ensures { λ r. ⌜ r ≡ risesOf pos w ⌝ }
+{
+    let up = w.reached_upper();
+    let low = w.reached_lower();
+    if pos { !up } else { !low }
+}
+
+pub fn may_fall(pos: bool, w: Alpha) -> bool
+    ensures { λ r. ⌜ r ≡ fallsOf pos w ⌝ }
+{
+    let up = w.reached_upper();
+    let low = w.reached_lower();
+    if pos { !low } else { !up }
+}
+
+pub fn rise_of(pos: bool, g: f64) -> f64
+    ensures { λ r. ⌜ r ≡ riseOf pos g ⌝ }
+{
+    if pos { -g } else { g }
+}
+
+pub fn fall_of(pos: bool, g: f64) -> f64
+    ensures { λ r. ⌜ r ≡ fallOf pos g ⌝ }
+{
+    if pos { g } else { -g }
+}
+
+// The curvature of a pair before the floor.
+pub fn curved_of(a: f64, b: f64, r: f64, agree: bool) -> f64
+    ensures { λ q. ⌜ q ≡ curved a b r agree ⌝ }
+{
+    if agree {
+        a + b - 2.0 * r
+    } else {
+        a + b + 2.0 * r
+    }
+}
+
+fn curvature_of(floor: f64, a: f64, b: f64, r: f64, agree: bool) -> f64
+    ensures { λ q. ⌜ q ≡ curvature floor a b r agree ⌝ }
+{
+    let q = curved_of(a, b, r, agree);
+    if q > 0.0 { q } else { floor }
+}
+
+fn gap_of(pos: bool, top: f64, g: f64) -> f64
+    ensures { λ r. ⌜ r ≡ gapOf pos top g ⌝ }
+{
+    if pos { top + g } else { top - g }
+}
+
+fn gain_of(d: f64, q: f64) -> f64
+    ensures { λ r. ⌜ r ≡ gain d q ⌝ }
+{
+    -(d * d) / q
+}
+
+// What the loop over the second asks of a lead.
+struct Lead {
+    found: bool,
+    top: f64,
+    index: usize,
+    label: u8,
+    diagonal: f64,
+}
+
+fn lead_of(f: &[f64], u: &[u64], y: &[u8], n: usize, side: usize, e: Extreme) -> Lead
+    requires { ⌜ (Indexed side n (now u)) × (side ≤ n) × (7 * n ≤ length (now f)) × (n ≤ length (now y)) × (Below n (e .holder)) ⌝ }
+    ensures { λ r. ⌜ r ≡ leadAt n (state (now (f .entry)) (now (u .entry)) (now (y .entry))) (e .value) (e .holder) ⌝ }
+{
+    let h = e.holder;
+    match h {
+        Found::At(i) => {
+            let c = kernel::index_at(u, side, n, i);
+            Lead {
+                found: true,
+                top: e.value,
+                index: c,
+                label: y[i],
+                diagonal: f[5 * n + c],
+            }
+        }
+        Found::Nobody => Lead {
+            found: false,
+            top: e.value,
+            index: 0,
+            label: 0,
+            diagonal: 0.0,
+        },
+    }
+}
+
+fn own(pos: bool, p: Lead, q: Lead) -> Lead
+    ensures { λ r. ⌜ r ≡ cond pos p q ⌝ }
+{
+    if pos { p } else { q }
+}
+
+// The curvature of the lead l and position j.
+fn curve_at(
+    f: &[f64],
+    u: &[u64],
+    y: &[u8],
+    n: usize,
+    side: usize,
+    kind: Kind,
+    m: &[u8],
+    floor: f64,
+    l: Lead,
+    j: usize,
+) -> f64
+    requires { ⌜ (Ready (problem n side kind (now m)) (state (now f) (now u) (now y))) × (j < n) × (l .index < side) ⌝ }
+    ensures { λ r. ⌜ r ≡ curveOf (problem n side kind (now (m .entry)))
+        (state (now (f .entry)) (now (u .entry)) (now (y .entry))) floor l j ⌝ }
+{
+    let r = kernel::reach(kind, m, side, l.index, l.label, u, n, y, j);
+    let c = kernel::index_at(u, side, n, j);
+    curvature_of(
+        floor,
+        l.diagonal,
+        f[5 * n + c],
+        r,
+        (l.label == 1) == (y[j] == 1),
+    )
+}
+
+// Position j weighed after its lead l.
+fn weighed_after(
+    f: &[f64],
+    u: &[u64],
+    y: &[u8],
+    n: usize,
+    side: usize,
+    kind: Kind,
+    m: &[u8],
+    floor: f64,
+    l: Lead,
+    j: usize,
+    e: Extreme,
+) -> Extreme
+    requires { ⌜ (Ready (problem n side kind (now m)) (state (now f) (now u) (now y))) × (j < n) × (l .index < side) ⌝ }
+    ensures { λ r. ⌜ r ≡ weighedAfter (problem n side kind (now (m .entry)))
+        (state (now (f .entry)) (now (u .entry)) (now (y .entry))) floor l j e ⌝ }
+{
+    let pos = y[j] == 1;
+    let d = gap_of(pos, l.top, f[j]);
+    if l.found & (may_fall(pos, state::alpha_at(f, n, j)) & (d > 0.0)) {
+        let q = curve_at(f, u, y, n, side, kind, m, floor, l, j);
+        extreme::lowered(e, true, j, gain_of(d, q))
+    } else {
+        e
+    }
+}
+
+// The least gain after the leads p, of the positives, and q, of the negatives.
+pub fn partner(
+    f: &[f64],
+    u: &[u64],
+    y: &[u8],
+    n: usize,
+    side: usize,
+    kind: Kind,
+    m: &[u8],
+    floor: f64,
+    p: Extreme,
+    q: Extreme,
+    active: usize,
+) -> Extreme
+    requires { ⌜ (Ready (problem n side kind (now m)) (state (now f) (now u) (now y))) × (active ≤ n)
+        × (Below n (p .holder)) × (Below n (q .holder)) ⌝ }
+    ensures { λ r. ⌜ r ≡ second (problem n side kind (now (m .entry)))
+        (state (now (f .entry)) (now (u .entry)) (now (y .entry))) floor (leads p q) active ⌝ }
+{
+    let lp = lead_of(f, u, y, n, side, p);
+    let lq = lead_of(f, u, y, n, side, q);
+    let mut e = Extreme {
+        value: 1.0 / 0.0,
+        holder: Found::Nobody,
+    };
+    for j in 0..active {
+        let l = own(y[j] == 1, lp, lq);
+        e = weighed_after(f, u, y, n, side, kind, m, floor, l, j, e);
+    }
+    e
+}
+
+fn holder_of(pos: bool, p: Extreme, q: Extreme) -> Found
+    ensures { λ r. ⌜ r ≡ leads p q pos .holder ⌝ }
+{
+    if pos { p.holder } else { q.holder }
+}
+
+fn paired_of(h: Found, j: usize) -> Choice
+    ensures { λ r. ⌜ r ≡ paired h j ⌝ }
+{
+    match h {
+        Found::At(i) => Choice::Pair(i, j),
+        Found::Nobody => Choice::Optimal,
+    }
+}
+
+// The pair that the leads give, unless the rule stops.
+pub fn chosen(
+    f: &[f64],
+    u: &[u64],
+    y: &[u8],
+    n: usize,
+    side: usize,
+    kind: Kind,
+    m: &[u8],
+    floor: f64,
+    p: Extreme,
+    q: Extreme,
+    stop: bool,
+    active: usize,
+) -> Choice
+    requires { ⌜ (Ready (problem n side kind (now m)) (state (now f) (now u) (now y))) × (active ≤ n)
+        × (Below n (p .holder)) × (Below n (q .holder)) ⌝ }
+    ensures { λ r. ⌜ r ≡ choice (problem n side kind (now (m .entry)))
+        (state (now (f .entry)) (now (u .entry)) (now (y .entry))) floor (leads p q) stop active ⌝ }
+{
+    if stop {
+        return Choice::Optimal;
+    }
+    let e = partner(f, u, y, n, side, kind, m, floor, p, q, active);
+    let h = e.holder;
+    match h {
+        Found::At(j) => paired_of(holder_of(y[j] == 1, p, q), j),
+        Found::Nobody => Choice::Optimal,
+    }
+}

@@ -1,0 +1,9 @@
+use borrow.Author.Needs.{needs}
+use Rattle.solver.proofs.rebuild.Statement.{statement}
+use Rattle.solver.proofs.rebuild.Tie as tie
+
+returns : tie.Need-returns
+returns c = ?
+
+pub rebuild-spec : {M : Type 1} → statement M
+rebuild-spec = tie.close (tie.spec (λ c κs. search needs) (λ c. search needs) returns)
