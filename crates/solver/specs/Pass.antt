@@ -95,12 +95,18 @@ module _ (g : Given) (m : List ℕ) where
     looked w (Pair i j) = stepped (withRun w (counterAt (w .run) 1)) i j
     looked w Optimal = withRun w (ended (w .run))
 
-    unfoldable pub moved : Full → Choice → Full
-    moved w (Pair i j) = stepped w i j
-    moved w Optimal = let v = rebuilt w in looked v (chosen v)
+    abbrev pub lookedAgain : Full → Full
+    lookedAgain w = looked w (chosen w)
+
+    unfoldable pub workedBy : Full → Choice → Full
+    workedBy w (Pair i j) = stepped w i j
+    workedBy w Optimal = lookedAgain (rebuilt w)
+
+    abbrev pub worked : Full → Full
+    worked w = workedBy w (chosen w)
 
     unfoldable pub onward : Bool → Full → Full
-    onward true w = moved w (chosen w)
+    onward true w = worked w
     onward false w = w
 
     unfoldable pub passed : Full → Full

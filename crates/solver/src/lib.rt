@@ -4,7 +4,7 @@ ghost use Prim.Native.Nat.{_+_, _-_, _*_, _≤_, _<_};
 ghost use lib.ListN.{length};
 ghost use Rattle.state.specs.Lists.{problem, state, Ready};
 ghost use Rattle.solver.specs.Run.{problemOf, Full, full, goes, counterAt, reopened, advanced, ended, afterWalk, period, Sound};
-ghost use Rattle.solver.specs.Pass.{chosen, rebuilt, topsC, topsNu, topsOf, restored, shrunk, countedDown, stepped, looked, moved, passed, runs};
+ghost use Rattle.solver.specs.Pass.{chosen, rebuilt, topsC, topsNu, topsOf, restored, shrunk, countedDown, stepped, lookedAgain, worked, passed, runs};
 use choose_c::Extremes;
 use extreme::Choice;
 use extreme::Extreme;
@@ -280,4 +280,81 @@ fn step(
     let active = r.active;
     update::update(f, u, y, m, b, n, side, kind, active, i, j, g.floor);
     advance(r)
+}
+
+// The second look, over the same active positions, after a reconstruction.
+fn look(f: &mut [f64], u: &[u64], y: &[u8], m: &[u8], b: &[f64], g: Given, r: Run) -> Run
+    requires { ⌜ (Ready (problemOf g (now m)) (state (now f) (now u) (now y))) × (g .n ≤ length (now b)) × (Sound (g .n) r)
+        × (r .iterations < 10000000) ⌝ }
+    ensures { λ q. ⌜ (_≡_ {A = Full} (full q (now (f .exit)) (now (u .entry)) (now (y .entry)))
+        (lookedAgain g (now (m .entry)) (now (b .entry)) (full r (now (f .entry)) (now (u .entry)) (now (y .entry)))))
+        × (Sound (g .n) q) × (q .iterations ≤ r .iterations + 1) ⌝ }
+{
+    let c = select(f, u, y, m, g, r);
+    match c {
+        Choice::Pair(i, j) => step(f, u, y, m, b, g, with_counter(r, 1), i, j),
+        Choice::Optimal => end(r),
+    }
+}
+
+// What a pass does after shrinking.
+fn work(f: &mut [f64], u: &[u64], y: &[u8], m: &[u8], b: &[f64], g: Given, r: Run) -> Run
+    requires { ⌜ (Ready (problemOf g (now m)) (state (now f) (now u) (now y))) × (g .n ≤ length (now b)) × (Sound (g .n) r)
+        × (r .iterations < 10000000) ⌝ }
+    ensures { λ q. ⌜ (_≡_ {A = Full} (full q (now (f .exit)) (now (u .entry)) (now (y .entry)))
+        (worked g (now (m .entry)) (now (b .entry)) (full r (now (f .entry)) (now (u .entry)) (now (y .entry)))))
+        × (Sound (g .n) q) × (q .iterations ≤ r .iterations + 1) ⌝ }
+{
+    let c = select(f, u, y, m, g, r);
+    match c {
+        Choice::Pair(i, j) => step(f, u, y, m, b, g, r, i, j),
+        Choice::Optimal => {
+            rebuild(f, u, y, m, g, r);
+            look(f, u, y, m, b, g, r)
+        }
+    }
+}
+
+fn pass(f: &mut [f64], u: &mut [u64], y: &mut [u8], m: &[u8], b: &[f64], g: Given, r: Run) -> Run
+    requires { ⌜ (Ready (problemOf g (now m)) (state (now f) (now u) (now y))) × (g .n ≤ length (now b)) × (Sound (g .n) r)
+        × (r .iterations < 10000000) × (1 ≤ g .n) ⌝ }
+    ensures { λ q. ⌜ (_≡_ {A = Full} (full q (now (f .exit)) (now (u .exit)) (now (y .exit)))
+        (passed g (now (m .entry)) (now (b .entry)) (full r (now (f .entry)) (now (u .entry)) (now (y .entry)))))
+        × (Sound (g .n) q) × (q .iterations ≤ r .iterations + 1)
+        × (Ready (problemOf g (now (m .entry))) (state (now (f .exit)) (now (u .exit)) (now (y .exit)))) ⌝ }
+{
+    let q = count_down(f, u, y, m, g, r);
+    if going(q) {
+        return work(f, u, y, m, b, g, q);
+    }
+    q
+}
+
+// At most budget passes.
+pub fn solve(
+    f: &mut [f64],
+    u: &mut [u64],
+    y: &mut [u8],
+    m: &[u8],
+    b: &[f64],
+    g: Given,
+    budget: usize,
+    start: Run,
+) -> Run
+    requires { ⌜ (Ready (problemOf g (now m)) (state (now f) (now u) (now y))) × (g .n ≤ length (now b)) × (Sound (g .n) start)
+        × (start .iterations ≡ 0) × (budget ≤ 10000000) × (1 ≤ g .n) ⌝ }
+    ensures { λ q. ⌜ (_≡_ {A = Full} (full q (now (f .exit)) (now (u .exit)) (now (y .exit)))
+        (runs g (now (m .entry)) (now (b .entry)) (full start (now (f .entry)) (now (u .entry)) (now (y .entry))) budget))
+        × (Sound (g .n) q) × (Ready (problemOf g (now (m .entry))) (state (now (f .exit)) (now (u .exit)) (now (y .exit)))) ⌝ }
+{
+    let mut r = start;
+    let mut t: usize = 0;
+    while t < budget {
+        if !going(r) {
+            return r;
+        }
+        r = pass(f, u, y, m, b, g, r);
+        t += 1;
+    }
+    r
 }

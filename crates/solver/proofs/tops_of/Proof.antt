@@ -1,12 +1,28 @@
+use mathlib.Core.List.{List}
+use mathlib.Core.Path.{_≡_, ap, _∙_}
+use denote.Ref.{now}
+use Rattle.choose_c.specs.declared.Extremes.{Extremes}
+use Rattle.extreme.specs.declared.Extreme.{Extreme}
+use Rattle.solver.specs.Pass.{topsC, topsNu}
+use Rattle.solver.specs.Run.{full}
+use Rattle.solver.proofs.Laws.{tops-nu, tops-c}
 use borrow.Author.Needs.{needs}
 use Rattle.solver.proofs.tops_of.Statement.{statement}
 use Rattle.solver.proofs.tops_of.Tie as tie
 
 returns : tie.Need-returns
-returns c = ?
+returns c =
+    let s = c .before .before .before .before .before .before .before in
+    c .tops-nu .ensures
+    ∙ ap (λ (es : List Extreme). topsNu es) (c .before .max-violating-pair-nu .ensures)
+    ∙ tops-nu (s .args .g) (now (s .args .m)) (full (s .args .r) (now (s .args .f)) (now (s .args .u)) (now (s .args .y))) (c .before .before .if1 .taken)
 
 returns-2 : tie.Need-returns-2
-returns-2 c = ?
+returns-2 c =
+    let s = c .before .before .before .before .before .before .before in
+    c .tops-c .ensures
+    ∙ ap (λ (e : Extremes). topsC e) (c .before .max-violating-pair .ensures)
+    ∙ tops-c (s .args .g) (now (s .args .m)) (full (s .args .r) (now (s .args .f)) (now (s .args .u)) (now (s .args .y))) (c .before .before .if1 .left)
 
 pub tops-of-spec : {M : Type 1} → statement M
 tops-of-spec =
