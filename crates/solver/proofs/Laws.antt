@@ -5,7 +5,7 @@ use mathlib.Core.List.{List}
 use mathlib.Core.Path.{_≡_, refl, sym, subst}
 use native.Mathlib.Nat.{zero-add, suc-add}
 use borrow.Author.Tests.{lt-ltb, le-ltb}
-use lib.Dec.{ltb}
+use lib.Dec.{eqb, ltb}
 use lib.Ieee.{Float, binary64, mul, le}
 use Rattle.choose_c.specs.Choice.{extremesC, choiceC}
 use Rattle.choose_c.proofs.Rule as C
@@ -14,8 +14,10 @@ use Rattle.choose_nu.proofs.Rule as Nu
 use Rattle.extreme.specs.declared.Choice.the-variants.{Pair, Optimal}
 use Rattle.shrink.specs.Drops.{walkedOver}
 use Rattle.shrink.specs.Walk.{Walking}
+use Rattle.start.specs.Start.{started}
 use Rattle.state.specs.Lists.{State}
-use Rattle.solver.specs.Run.{problemOf, Full, withRun, goes, counterAt, reopened, ended, afterWalk, period}
+use Rattle.solver.specs.Run.{readyOf, problemOf, Full, full, withRun, goes, counterAt, reopened, ended, afterWalk, period}
+use Rattle.solver.specs.End.{activeAt, closed, trained}
 use Rattle.solver.specs.Pass.{ten, chosen, rebuilt, topsC, topsNu, topsOf, restored, walkedFrom, shrunk, countedDown, stepped, looked, lookedAgain, workedBy, worked, onward, passed, next, runs}
 use Rattle.solver.specs.declared.Given.{Given}
 use Rattle.solver.specs.declared.Run.{Run}
@@ -137,3 +139,19 @@ module _ (g : Given) (m : List ℕ) (w : Full) where
     unfolding runs next
     runs-off t zero h = simp zero-add
     runs-off t (suc k) h = rw (suc-add, runs-off t k h, h)
+
+  -- ---- the end
+
+  pub closed-out : (budget : ℕ) → (eqb (w .run .iterations) budget && ltb (w .run .active) (g .n)) ≡ true
+      → withRun (rebuilt g m w) (activeAt (w .run) (g .n)) ≡ closed g m budget w
+  unfolding closed
+  closed-out budget h = rw h
+
+  pub closed-in : (budget : ℕ) → (eqb (w .run .iterations) budget && ltb (w .run .active) (g .n)) ≡ false → w ≡ closed g m budget w
+  unfolding closed
+  closed-in budget h = rw h
+
+pub trained-by : (g : Given) (m : List ℕ) (b : List Float) (budget : ℕ) (s : State) (f : List Float) (r : Run) (v w : Full) → f ≡ started (problemOf g m) b s
+    → r ≡ readyOf (g .n) → v ≡ runs g m b (full r f (s .numbers) (s .labels)) budget → w ≡ closed g m budget v → w ≡ trained g m b budget s
+unfolding trained
+trained-by g m b budget s f r v w x y z u = rw (u, z, y, x)

@@ -53,6 +53,10 @@ afterWalk r a refused =
 unfoldable pub period : ℕ → ℕ
 period n = cond (ltb n 1000) n 1000
 
+-- before the first pass
+abbrev pub readyOf : ℕ → Run
+readyOf n = record { active = n; counter = period n + 1; iterations = 0; unshrink = false; status = Going }
+
 -- what each pass keeps of the small record
 pub record Sound (n : ℕ) (r : Run) : Type 0 where
   pub active : r .active ≤ n

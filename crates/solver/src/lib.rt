@@ -3,7 +3,8 @@ ghost use mathlib.Core.Path.{_≡_};
 ghost use Prim.Native.Nat.{_+_, _-_, _*_, _≤_, _<_};
 ghost use lib.ListN.{length};
 ghost use Rattle.state.specs.Lists.{problem, state, Ready};
-ghost use Rattle.solver.specs.Run.{problemOf, Full, full, goes, counterAt, reopened, advanced, ended, afterWalk, period, Sound};
+ghost use Rattle.solver.specs.End.{activeAt, closed, sumTo, objectiveOf, trained};
+ghost use Rattle.solver.specs.Run.{readyOf, problemOf, Full, full, goes, counterAt, reopened, advanced, ended, afterWalk, period, Sound};
 ghost use Rattle.solver.specs.Pass.{chosen, rebuilt, topsC, topsNu, topsOf, restored, shrunk, countedDown, stepped, lookedAgain, worked, passed, runs};
 use choose_c::Extremes;
 use extreme::Choice;
@@ -357,4 +358,71 @@ pub fn solve(
         t += 1;
     }
     r
+}
+
+fn with_active(r: Run, a: usize) -> Run
+    ensures { λ q. ⌜ q ≡ activeAt r a ⌝ }
+{
+    let s = r.status;
+    Run {
+        active: a,
+        counter: r.counter,
+        iterations: r.iterations,
+        unshrink: r.unshrink,
+        status: s,
+    }
+}
+
+// Where the budget ran out with inactive positions left, all are active again.
+pub fn close(f: &mut [f64], u: &[u64], y: &[u8], m: &[u8], g: Given, budget: usize, r: Run) -> Run
+    requires { ⌜ (Ready (problemOf g (now m)) (state (now f) (now u) (now y))) × (Sound (g .n) r) ⌝ }
+    ensures { λ q. ⌜ (_≡_ {A = Full} (full q (now (f .exit)) (now (u .entry)) (now (y .entry)))
+        (closed g (now (m .entry)) budget (full r (now (f .entry)) (now (u .entry)) (now (y .entry))))) × (Sound (g .n) q) ⌝ }
+{
+    if (r.iterations == budget) & (r.active < g.n) {
+        rebuild(f, u, y, m, g, r);
+        return with_active(r, g.n);
+    }
+    r
+}
+
+// Half the sum of weight·(gradient + linear term), over all positions in order.
+pub fn objective(f: &[f64], n: usize) -> f64
+    requires { ⌜ (n ≤ 512) × (7 * n ≤ length (now f)) ⌝ }
+    ensures { λ z. ⌜ z ≡ objectiveOf n (now (f .entry)) ⌝ }
+{
+    let mut v = 0.0;
+    for k in 0..n {
+        v = v + f[2 * n + k] * (f[k] + f[4 * n + k]);
+    }
+    v / 2.0
+}
+
+// Before the first pass.
+pub fn ready(n: usize) -> Run
+    requires { ⌜ (1 ≤ n) × (n ≤ 512) ⌝ }
+    ensures { λ r. ⌜ (r ≡ readyOf n) × (Sound n r) ⌝ }
+{
+    Run {
+        active: n,
+        counter: period_of(n) + 1,
+        iterations: 0,
+        unshrink: false,
+        status: Status::Going,
+    }
+}
+
+// Start, at most budget passes, end.
+pub fn train(f: &mut [f64], u: &mut [u64], y: &mut [u8], m: &[u8], b: &[f64], g: Given, budget: usize) -> Run
+    requires { ⌜ (Ready (problemOf g (now m)) (state (now f) (now u) (now y))) × (g .n ≤ length (now b)) × (budget ≤ 10000000) × (1 ≤ g .n) ⌝ }
+    ensures { λ q. ⌜ (_≡_ {A = Full} (full q (now (f .exit)) (now (u .exit)) (now (y .exit)))
+        (trained g (now (m .entry)) (now (b .entry)) budget (state (now (f .entry)) (now (u .entry)) (now (y .entry)))))
+        × (Sound (g .n) q) × (Ready (problemOf g (now (m .entry))) (state (now (f .exit)) (now (u .exit)) (now (y .exit)))) ⌝ }
+{
+    let n = g.n;
+    let side = g.side;
+    let kind = g.kind;
+    start::start(f, u, y, m, b, n, side, kind);
+    let r = solve(f, u, y, m, b, g, budget, ready(n));
+    close(f, u, y, m, g, budget, r)
 }
