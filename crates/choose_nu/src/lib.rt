@@ -10,7 +10,8 @@ use extreme::Extreme;
 use extreme::Found;
 use kernel::Kind;
 
-// One more position weighed: rise of the positives and of the negatives, then fall.
+// One more position weighed for the two extremes of its label. The four are the rise of the positives, that of the
+// negatives, and their falls.
 fn weighed(es: [Extreme; 4], k: usize, pos: bool, g: f64, w: Alpha) -> [Extreme; 4]
     ensures { λ r. ⌜ r ≡ weighedNu es k pos g w ⌝ }
 {
@@ -22,12 +23,21 @@ fn weighed(es: [Extreme; 4], k: usize, pos: bool, g: f64, w: Alpha) -> [Extreme;
     let e1 = es[1];
     let e2 = es[2];
     let e3 = es[3];
-    [
-        extreme::lifted(e0, pos & up, k, rise),
-        extreme::lifted(e1, !pos & up, k, rise),
-        extreme::lifted(e2, pos & down, k, fall),
-        extreme::lifted(e3, !pos & down, k, fall),
-    ]
+    if pos {
+        [
+            extreme::lifted(e0, up, k, rise),
+            extreme::anew(e1),
+            extreme::lifted(e2, down, k, fall),
+            extreme::anew(e3),
+        ]
+    } else {
+        [
+            extreme::anew(e0),
+            extreme::lifted(e1, up, k, rise),
+            extreme::anew(e2),
+            extreme::lifted(e3, down, k, fall),
+        ]
+    }
 }
 
 // The four extremes of the active positions.

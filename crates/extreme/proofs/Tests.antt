@@ -2,9 +2,9 @@
 use Prim.Native.Nat.{ℕ, _<_}
 use mathlib.Core.Bool.{Bool, true, false, not}
 use mathlib.Core.Logic.{_⊎_, inl, inr, ⊎-elim, _↔_}
-use mathlib.Core.Path.{_≡_, refl, subst}
+use mathlib.Core.Path.{_≡_, refl}
 use lib.Dec.{T, T-not, not-T}
-use lib.Ieee.{Float, nan, inf, fin, lt, le, isNan}
+use lib.Ieee.{Float, nan, inf, fin, lt, le}
 use Rattle.rounding.specs.Units.{Real}
 use Rattle.rounding.proofs.Order.{le-real, lt-real, lt→le, le-refl, le-trans, lt-le-trans, le-lt-trans, not-le, not-lt, least, greatest}
 use Rattle.extreme.specs.Best.{atLeast, above, atMost, best}
@@ -56,9 +56,9 @@ NoNumber may value m = (k : ℕ) → k < m → T (may k) → Real (value k) → 
 
 module _ (R S : Float → Float → Bool) (start : Float) (enters : (x : Float) → T (R start x) ↔ Real x) (itself : (x : Float) → Real x → T (R x x))
     (weak : (x y : Float) → T (S x y) → T (R x y)) (turn : (x y : Float) → Real x → Real y → T (not (R x y)) → T (S y x)) where
-  last-rule : (may : ℕ → Bool) (value : ℕ → Float) (m : ℕ) (e : Extreme)
+  last-rule : (may : ℕ → Bool) (value : ℕ → Float) (m : ℕ) {e : Extreme}
       → Rule start value (Holds R start may value m) (Shut R start may value m) e → Rule start value (Last R S may value m) (NoNumber may value m) e
-  last-rule may value m e =
+  last-rule may value m =
       reworded holder (
         λ s k l u n. T-not (R start (value k)) (s k l u) (enters (value k) .1 n),
         λ z k l u. not-T (R start (value k)) (λ t. z k l u (enters (value k) .0 t)),
@@ -84,14 +84,14 @@ module _ (may : ℕ → Bool) (value : ℕ → Float) (m : ℕ) where
   -- minus infinity may hold it, a NaN never does
   pub last-greatest : Rule (inf true) value (LastGreatest may value m) (NoNumber may value m) (best atLeast (inf true) may value m)
   last-greatest =
-      last-rule le lt (inf true) (λ x. (λ t. le-real (inf true) x t .1, least x)) le-refl lt→le (λ x y p q. not-le x y p q .0) may value m (best atLeast (inf true) may value m)
+      last-rule le lt (inf true) (λ x. (λ t. le-real (inf true) x t .1, least x)) le-refl lt→le (λ x y p q. not-le x y p q .0) may value m
       (best-rule atLeast at-least-ranks (inf true) may value m)
 
   -- infinity may hold it, a NaN never does
   pub last-least : Rule (inf false) value (LastLeast may value m) (NoNumber may value m) (best atMost (inf false) may value m)
   last-least =
       last-rule atMost (λ x y. lt y x) (inf false) (λ x. (λ t. le-real x (inf false) t .0, greatest x)) le-refl (λ x y. lt→le y x) (λ x y p q. not-le y x q p .0) may value m
-      (best atMost (inf false) may value m) (best-rule atMost at-most-ranks (inf false) may value m)
+      (best-rule atMost at-most-ranks (inf false) may value m)
 
 -- ---- the first of the greatest numbers
 

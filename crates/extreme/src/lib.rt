@@ -18,6 +18,23 @@ pub enum Choice {
     Optimal,
 }
 
+// The same extreme. A plain copy would carry the padding of its enum through a loop, which is slow.
+pub fn anew(b: Extreme) -> Extreme
+    ensures { λ r. ⌜ r ≡ b ⌝ }
+{
+    let h = b.holder;
+    match h {
+        Found::At(i) => Extreme {
+            value: b.value,
+            holder: Found::At(i),
+        },
+        Found::Nobody => Extreme {
+            value: b.value,
+            holder: Found::Nobody,
+        },
+    }
+}
+
 // The greatest, the last of equals.
 pub fn raised(b: Extreme, may: bool, k: usize, v: f64) -> Extreme
     ensures { λ r. ⌜ r ≡ weighed atLeast may k v b ⌝ }
@@ -28,7 +45,7 @@ pub fn raised(b: Extreme, may: bool, k: usize, v: f64) -> Extreme
             holder: Found::At(k),
         }
     } else {
-        b
+        anew(b)
     }
 }
 
@@ -42,7 +59,7 @@ pub fn lifted(b: Extreme, may: bool, k: usize, v: f64) -> Extreme
             holder: Found::At(k),
         }
     } else {
-        b
+        anew(b)
     }
 }
 
@@ -56,6 +73,6 @@ pub fn lowered(b: Extreme, may: bool, k: usize, v: f64) -> Extreme
             holder: Found::At(k),
         }
     } else {
-        b
+        anew(b)
     }
 }

@@ -1,3 +1,3 @@
 pub mod Steps
-pub mod Rule
 pub mod Apart
+pub mod Rule

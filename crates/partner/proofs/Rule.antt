@@ -1,8 +1,8 @@
 -- The rule of the second and of the choice, in words, whatever the leads are. Assumes nothing.
 use Prim.Native.Nat.{ℕ, _<_}
-use mathlib.Core.Bool.{Bool, true, false, _&&_, cond, true≢false}
+use mathlib.Core.Bool.{Bool, true, false, _&&_, true≢false}
 use mathlib.Core.Logic.{_⊎_, inl, inr, _↔_}
-use mathlib.Core.Path.{_≡_, refl, sym, ap, _∙_, subst}
+use mathlib.Core.Path.{_≡_, refl, sym, ap}
 use native.Mathlib.Omega.{arith}
 use lib.Dec.{T}
 use lib.Ieee.{Float, inf, lt, le}
@@ -14,12 +14,12 @@ use Rattle.extreme.proofs.Tests.{LastLeast, NoNumber, last-least}
 use Rattle.extreme.specs.declared.Extreme.{Extreme}
 use Rattle.extreme.specs.declared.Found.{Found}
 use Rattle.extreme.specs.declared.Found.the-variants.{At, Nobody}
-use Rattle.extreme.specs.declared.Choice.{Choice}
 use Rattle.extreme.specs.declared.Choice.the-variants.{Pair, Optimal}
 use Rattle.state.specs.Lists.{Problem, State}
 use Rattle.state.specs.Fields.{positive}
 use Rattle.partner.specs.Second.{isAt, placeOf, gap, follows, gainOf, second, paired, pairedWith, choice}
-use Rattle.partner.specs.Sides.{mayFall}
+use Rattle.partner.specs.Sides.{mayFall, rise}
+use Rattle.partner.proofs.Apart.{apart as different}
 
 both : (a b : Bool) → T a → T b → T (a && b)
 both true b t u = u
@@ -28,6 +28,9 @@ both false b t u = t
 at-place : (h : Found) → T (isAt h) → h ≡ At (placeOf h)
 at-place (At i) t = refl
 at-place Nobody t = absurd t
+
+not-optimal : (i j : ℕ) → Optimal ≡ Pair i j → ⊥
+not-optimal i j q = let z : _≡_ {A = ℕ} 0 1 = cc in omega arith
 
 module _ (p : Problem) (s : State) (floor : Float) (lead : Bool → Extreme) (a : ℕ) where
   -- i holds the lead of j's label, j may fall, and d > 0
@@ -93,7 +96,7 @@ module _ (p : Problem) (s : State) (floor : Float) (lead : Bool → Extreme) (a 
   pub second-none : (second p s floor lead a .holder ≡ Nobody) ↔ NoSecond
   second-none = (
     λ q i j l f n. ruled .nobody .0 q j l (following i j f) (rw (same i j f) n),
-    λ z. ruled .nobody .1 (λ j l t n. let f = follower j t in z (placeOf (lead (positive s j) .holder)) j l f n),
+    λ z. ruled .nobody .1 (λ j l t n. z (placeOf (lead (positive s j) .holder)) j l (follower j t) n),
   )
 
   -- ---- the choice
@@ -107,16 +110,16 @@ module _ (p : Problem) (s : State) (floor : Float) (lead : Bool → Extreme) (a 
 
   pub choice-pair : (stop : Bool) (i j : ℕ) → (choice p s floor lead stop a ≡ Pair i j) ↔ Taken stop i j
   unfolding choice
-  choice-pair true i j = (λ q. let z : _≡_ {A = ℕ} 0 1 = cc in absurd (omega arith), λ w. absurd (true≢false (w .0)))
+  choice-pair true i j = (λ q. absurd (not-optimal i j q), λ w. absurd (true≢false (w .0)))
   choice-pair false i j = (go (second p s floor lead a .holder) refl, λ w. rw (w .1, w .2))
     where
       one : (h : Found) (k : ℕ) → second p s floor lead a .holder ≡ At k → lead (positive s k) .holder ≡ h → paired h k ≡ Pair i j → Taken false i j
       one (At h) k e l q = let x : h ≡ i = cc in let y : k ≡ j = cc in (refl, rw y at e, rw (x, y) at l)
-      one Nobody k e l q = let z : _≡_ {A = ℕ} 0 1 = cc in absurd (omega arith)
+      one Nobody k e l q = absurd (not-optimal i j q)
 
       go : (h : Found) → second p s floor lead a .holder ≡ h → pairedWith (λ j. lead (positive s j) .holder) h ≡ Pair i j → Taken false i j
       go (At k) e q = one (lead (positive s k) .holder) k e refl q
-      go Nobody e q = let z : _≡_ {A = ℕ} 0 1 = cc in absurd (omega arith)
+      go Nobody e q = absurd (not-optimal i j q)
 
   -- optimal exactly where the rule stops, or there is no second
   pub choice-optimal : (stop : Bool) → (choice p s floor lead stop a ≡ Optimal) ↔ ((stop ≡ true) ⊎ NoSecond)
@@ -125,5 +128,21 @@ module _ (p : Problem) (s : State) (floor : Float) (lead : Bool → Extreme) (a 
   choice-optimal false = (λ q. inr (second-none .0 (go (second p s floor lead a .holder) refl q)), λ w. elim w [ inl e ↦ absurd (true≢false (sym e)) | inr z ↦ rw (second-none .1 z) ])
     where
       go : (h : Found) → second p s floor lead a .holder ≡ h → pairedWith (λ j. lead (positive s j) .holder) h ≡ Optimal → h ≡ Nobody
-      go (At k) e q = let w = rw (second-led k e) at q in let z : _≡_ {A = ℕ} 0 1 = cc in absurd (omega arith)
+      go (At k) e q = absurd (not-optimal (placeOf (lead (positive s k) .holder)) k (sym (rw (second-led k e) at q)))
       go Nobody e q = refl
+
+  -- a pair of leads that are their holders' rises
+  pub record Pairs (stop : Bool) (i j : ℕ) : Type 0 where
+    pub going : stop ≡ false
+    pub lead-is : lead (positive s j) .holder ≡ At i
+    pub value-is : lead (positive s j) .value ≡ rise p s i
+    pub second-is : second p s floor lead a .holder ≡ At j
+    pub partner : Seconds i j
+    pub apart : i ≡ j → ⊥
+
+  pub pair-rule : ((t : Bool) (i : ℕ) → lead t .holder ≡ At i → lead t .value ≡ rise p s i) → (stop : Bool) (i j : ℕ) → choice p s floor lead stop a ≡ Pair i j → Pairs stop i j
+  pair-rule rises stop i j q =
+      let w = choice-pair stop i j .0 q in
+      let v = rises (positive s j) i (w .2) in
+      let g = second-rule i j (w .1) (w .2) in
+      record { going = w .0; lead-is = w .2; value-is = v; second-is = w .1; partner = g; apart = different p s i j (rw v at (g .after .ahead)) }

@@ -17,7 +17,6 @@ use Rattle.state.specs.Fields.{positive}
 use Rattle.partner.specs.Lead.{leadAt, weighedAfter, allAfter}
 use Rattle.partner.specs.Second.{isAt, placeOf, leads, gap, gainOf, second}
 use Rattle.partner.specs.Sides.{mayFall}
-use Rattle.partner.specs.declared.Lead.{Lead}
 
 -- where there is a position, a lead's kernel index has its column
 lead-index : (side n : ℕ) (s : State) (v : Float) (h : Found) → Indexed side n (s .numbers) → 0 < n → Below n h → leadAt n s v h .index < side

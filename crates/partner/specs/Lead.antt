@@ -1,6 +1,6 @@
 -- What the loop over the second asks of a lead, read once.
 use Prim.Native.Nat.{ℕ, zero, suc, _+_, _*_}
-use mathlib.Core.Bool.{Bool, true, false, _&&_, Bool·beq, cond}
+use mathlib.Core.Bool.{true, false, _&&_, Bool·beq, cond}
 use lib.Dec.{eqb}
 use lib.Ieee.{Float, nan, inf, lt}
 use lib.ListN.{getD}

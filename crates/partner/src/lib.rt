@@ -3,10 +3,9 @@
 ghost use mathlib.Core.Bool.{cond};
 ghost use mathlib.Core.Path.{_≡_};
 ghost use Prim.Native.Nat.{_+_, _*_, _≤_, _<_};
-ghost use lib.Ieee.{nan};
-ghost use lib.ListN.{length, getD};
+ghost use lib.ListN.{length};
 ghost use Rattle.extreme.specs.Best.{Below};
-ghost use Rattle.kernel.specs.Row.{kernelIndex, Indexed};
+ghost use Rattle.kernel.specs.Row.{Indexed};
 ghost use Rattle.state.specs.Lists.{problem, state, Ready};
 ghost use Rattle.partner.specs.Sides.{risesOf, fallsOf, riseOf, fallOf};
 ghost use Rattle.partner.specs.Curvature.{curved, curvature, gapOf, gain};
@@ -169,7 +168,7 @@ fn weighed_after(
         let q = curve_at(f, u, y, n, side, kind, m, floor, l, j);
         extreme::lowered(e, true, j, gain_of(d, q))
     } else {
-        e
+        extreme::anew(e)
     }
 }
 

@@ -413,7 +413,15 @@ pub fn ready(n: usize) -> Run
 }
 
 // Start, at most budget passes, end.
-pub fn train(f: &mut [f64], u: &mut [u64], y: &mut [u8], m: &[u8], b: &[f64], g: Given, budget: usize) -> Run
+pub fn train(
+    f: &mut [f64],
+    u: &mut [u64],
+    y: &mut [u8],
+    m: &[u8],
+    b: &[f64],
+    g: Given,
+    budget: usize,
+) -> Run
     requires { ⌜ (Ready (problemOf g (now m)) (state (now f) (now u) (now y))) × (g .n ≤ length (now b)) × (budget ≤ 10000000) × (1 ≤ g .n) ⌝ }
     ensures { λ q. ⌜ (_≡_ {A = Full} (full q (now (f .exit)) (now (u .exit)) (now (y .exit)))
         (trained g (now (m .entry)) (now (b .entry)) budget (state (now (f .entry)) (now (u .entry)) (now (y .entry)))))

@@ -1,18 +1,23 @@
 // What the comparison with the oracle calls: a run over lists that the caller has loaded. It is no entry: what it requires, the
 // caller has to see to.
-ghost use mathlib.Core.Bool.{true, false};
+ghost use mathlib.Core.Bool.{Bool, not};
 ghost use mathlib.Core.Path.{_≡_};
-ghost use Prim.Native.Nat.{_+_, _*_, _≤_};
+ghost use Prim.Native.Nat.{ℕ, _+_, _*_, _≤_};
+ghost use lib.Dec.{eqb};
 ghost use lib.ListN.{length};
-ghost use Rattle.kernel.specs.declared.Kind.the-variants.{TwoClass};
-ghost use Rattle.state.specs.Lists.{problem, state, Ready};
+ghost use Rattle.solver.specs.End.{trained, objectiveOf};
+ghost use Rattle.solver.specs.Run.{problemOf, Full, full};
+ghost use Rattle.state.specs.Lists.{State, state, Ready};
+ghost use Rattle.trial.specs.Trial.{codeOf, givenOf, codedOf, levelOf, putOf};
 use kernel::Kind;
+use rho::Level;
 use solver::Given;
 use solver::Run;
 use solver::Status;
 
-fn code_of(r: Run) -> u64 {
-    let s = r.status;
+fn code(s: Status) -> u64
+    ensures { λ c. ⌜ (c ≡ codeOf s) × (c ≤ 2) ⌝ }
+{
     match s {
         Status::Going => 0,
         Status::Done => 1,
@@ -20,11 +25,61 @@ fn code_of(r: Run) -> u64 {
     }
 }
 
-// Into out go rho, r and obj; the answer is 4·iterations, and 1 where the run ended by itself or 2 where it was refused.
+// 4·iterations, and 1 where the run ended by itself or 2 where it was refused.
+fn coded(r: Run) -> u64
+    ensures { λ c. ⌜ c ≡ codedOf r ⌝ }
+{
+    let s = r.status;
+    let passes = r.iterations;
+    if passes > 10000000 {
+        return 3;
+    }
+    4 * (passes as u64) + code(s)
+}
+
+fn level(f: &[f64], y: &[u8], n: usize, active: usize, nu: bool) -> Level
+    requires { ⌜ (active ≤ n) × (n ≤ 512) × (7 * n ≤ length (now f)) × (n ≤ length (now y)) ⌝ }
+    ensures { λ l. ⌜ l ≡ levelOf nu n (now (f .entry)) (now (y .entry)) active ⌝ }
+{
+    if nu {
+        rho::calculate_rho_nu(f, y, n, active)
+    } else {
+        Level {
+            rho: rho::calculate_rho(f, y, n, active),
+            r: 0.0,
+        }
+    }
+}
+
+fn put(out: &mut [f64], l: Level, obj: f64)
+    requires { ⌜ 3 ≤ length (now out) ⌝ }
+    ensures { λ _. ⌜ now (out .exit) ≡ putOf (now (out .entry)) l obj ⌝ }
+{
+    out[0] = l.rho;
+    out[1] = l.r;
+    out[2] = obj;
+}
+
+// Into out go rho, r and obj.
 #[no_mangle]
-pub extern "C" fn trial_run(f: &mut [f64], u: &mut [u64], y: &mut [u8], m: &[u8], b: &[f64], out: &mut [f64], n: usize, nu: u8, shrinking: u8, eps: f64, budget: usize) -> u64
-    requires { ⌜ (Ready (problem n n TwoClass (now m)) (state (now f) (now u) (now y))) × (n ≤ length (now b)) × (budget ≤ 10000000) × (1 ≤ n)
+pub extern "C" fn trial_run(
+    f: &mut [f64],
+    u: &mut [u64],
+    y: &mut [u8],
+    m: &[u8],
+    b: &[f64],
+    out: &mut [f64],
+    n: usize,
+    nu: u8,
+    shrinking: u8,
+    eps: f64,
+    budget: usize,
+) -> u64
+    requires { ⌜ (Ready (problemOf (givenOf n nu shrinking eps) (now m)) (state (now f) (now u) (now y))) × (n ≤ length (now b)) × (budget ≤ 10000000) × (1 ≤ n)
         × (3 ≤ length (now out)) ⌝ }
+    ensures lists { λ _. ⌜ _≡_ {A = State} (state (now (f .exit)) (now (u .exit)) (now (y .exit)))
+        (trained (givenOf n nu shrinking eps) (now (m .entry)) (now (b .entry)) budget (state (now (f .entry)) (now (u .entry)) (now (y .entry))) .state) ⌝ }
+    ensures coded { λ c. ⌜ c ≡ codedOf (trained (givenOf n nu shrinking eps) (now (m .entry)) (now (b .entry)) budget (state (now (f .entry)) (now (u .entry)) (now (y .entry))) .run) ⌝ }
 {
     let g = Given {
         n,
@@ -37,12 +92,7 @@ pub extern "C" fn trial_run(f: &mut [f64], u: &mut [u64], y: &mut [u8], m: &[u8]
     };
     let r = solver::train(f, u, y, m, b, g, budget);
     let active = r.active;
-    let level = rho::calculate_rho_nu(f, y, n, active);
-    out[0] = rho::calculate_rho(f, y, n, active);
-    if nu != 0 {
-        out[0] = level.rho;
-    }
-    out[1] = level.r;
-    out[2] = solver::objective(f, n);
-    4 * (r.iterations as u64) + code_of(r)
+    let l = level(f, y, n, active, nu != 0);
+    put(out, l, solver::objective(f, n));
+    coded(r)
 }

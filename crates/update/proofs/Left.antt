@@ -1,7 +1,6 @@
 -- What an update leaves at each place. Assumes nothing.
 use Prim.Native.Nat.{ℕ, _+_, _*_, _≤_, _<_}
 use native.Mathlib.Omega.{arith}
-use mathlib.Core.Bool.{Bool}
 use mathlib.Core.List.{List}
 use mathlib.Core.Path.{_≡_, ap, ap₂, _∙_}
 use lib.Ieee.{Float, nan, binary64, add, sub, mul}
@@ -49,31 +48,28 @@ module _ (p : Problem) (b : List Float) (s : State) (k : ℕ) (x : Float) (count
   abbrev t : State
   t = over s (stored (p .n) (s .floats) k w)
 
-  abbrev up : Bool
-  up = atUpper (weight x (alpha p s k .upper))
-
   length-settled : length (settled p b s k x count) ≡ length (s .floats)
   unfolding settled
-  length-settled = length-turnedBy p t k up w count ∙ length-stored (p .n) (s .floats) k w
+  length-settled = length-turnedBy p t k _ w count ∙ length-stored (p .n) (s .floats) k w
 
   settled-other : (q : ℕ) → ((h : ℕ) → h < count → q ≡ p .n + h → ⊥) → (q ≡ 2 * p .n + k → ⊥) → (q ≡ 3 * p .n + k → ⊥)
       → getD (settled p b s k x count) q nan ≡ getD (s .floats) q nan
   unfolding settled
-  settled-other q out g h = turnedBy-other p t k up w count q out ∙ stored-other (p .n) (s .floats) k w q g h
+  settled-other q out g h = turnedBy-other p t k _ w count q out ∙ stored-other (p .n) (s .floats) k w q g h
 
   module _ (K : k < p .n) (C : count ≤ p .n) (room : 7 * p .n ≤ length (s .floats)) where
     settled-value : getD (settled p b s k x count) (2 * p .n + k) nan ≡ x
     unfolding settled
-    settled-value = turnedBy-other p t k up w count (2 * p .n + k) (λ h g e. omega arith) ∙ stored-value (p .n) (s .floats) k w K room
+    settled-value = turnedBy-other p t k _ w count (2 * p .n + k) (λ h g e. omega arith) ∙ stored-value (p .n) (s .floats) k w K room
 
     settled-upper : getD (settled p b s k x count) (3 * p .n + k) nan ≡ bound b k
     unfolding settled
-    settled-upper = turnedBy-other p t k up w count (3 * p .n + k) (λ h g e. omega arith) ∙ stored-upper (p .n) (s .floats) k w K room
+    settled-upper = turnedBy-other p t k _ w count (3 * p .n + k) (λ h g e. omega arith) ∙ stored-upper (p .n) (s .floats) k w K room
 
     settled-fixed : (h : ℕ) → h < count → getD (settled p b s k x count) (p .n + h) nan ≡ turnOf p b s k x h (getD (s .floats) (p .n + h) nan)
     unfolding settled
     settled-fixed h g =
-        turnedBy-at p t k up w count h g (rw (length-stored (p .n) (s .floats) k w) (omega arith))
+        turnedBy-at p t k _ w count h g (rw (length-stored (p .n) (s .floats) k w) (omega arith))
         ∙ ap (turnOf p b s k x h) (stored-other (p .n) (s .floats) k w (p .n + h) (λ e. omega arith) (λ e. omega arith))
 
 -- ---- the whole

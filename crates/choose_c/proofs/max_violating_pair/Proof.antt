@@ -11,6 +11,7 @@ use borrow.Author.Needs.{needs}
 use Rattle.choose_c.proofs.max_violating_pair.Statement.{statement}
 use Rattle.choose_c.proofs.max_violating_pair.Tie as tie
 
+-- no extreme asks for the kind
 abbrev Inv-loop : tie.InvT-loop
 Inv-loop f u y n side m active e₀ k₀ e k = (k ≤ active) × (e ≡ extremesC (problem n side TwoClass m) (state f u y) k)
 

@@ -9,10 +9,11 @@ use Rattle.choose_c.proofs.select_working_set.Tie as tie
 
 chosen-requires : tie.Need-chosen-requires
 chosen-requires c κs =
-    let a = c .before .before .before .before .before .before .before .before .before .args in
-    let w = lead-below (problem (a .n) (a .side) (a .kind) (now (a .m))) (state (now (a .f)) (now (a .u)) (now (a .y))) (a .active) (a .n)
-    (c .before .before .before .before .max-violating-pair .result) (c .before .before .before .before .max-violating-pair .ensures) (c .before .before .before .before .before .before .before .before .before .pre .1) in
-    (c .before .before .before .before .before .before .before .before .before .pre .0, c .before .before .before .before .before .before .before .before .before .pre .1, w, w)
+    let z = c .before .before .before .before .before .before .before .before .before in
+    let a = z .args in
+    let p = problem (a .n) (a .side) (a .kind) (now (a .m)) in
+    let w = lead-below p (state (now (a .f)) (now (a .u)) (now (a .y))) (a .active) (a .n) (z .pre .1) in
+    rw (c .before .before .before .before .max-violating-pair .ensures) (z .pre .0, z .pre .1, w, w)
 
 returns : tie.Need-returns
 unfolding choiceC

@@ -11,6 +11,7 @@ use borrow.Author.Needs.{needs}
 use Rattle.choose_nu.proofs.max_violating_pair_nu.Statement.{statement}
 use Rattle.choose_nu.proofs.max_violating_pair_nu.Tie as tie
 
+-- no extreme asks for the kind
 abbrev Inv-loop : tie.InvT-loop
 Inv-loop f u y n side m active es₀ k₀ es k = (k ≤ active) × (es ≡ extremesNu (problem n side TwoClass m) (state f u y) k)
 

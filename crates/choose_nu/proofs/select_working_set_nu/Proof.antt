@@ -1,4 +1,3 @@
-use mathlib.Core.Bool.{true, false}
 use denote.Ref.{now}
 use Rattle.partner.proofs.Steps.{by-label}
 use Rattle.state.specs.Lists.{problem, state}
@@ -10,9 +9,11 @@ use Rattle.choose_nu.proofs.select_working_set_nu.Tie as tie
 
 chosen-requires : tie.Need-chosen-requires
 chosen-requires c κs =
-    let a = c .before .before .before .before .before .before .before .before .before .before .before .before .before .before .args in
-    let w = lead-below (problem (a .n) (a .side) (a .kind) (now (a .m))) (state (now (a .f)) (now (a .u)) (now (a .y))) (a .active) (a .n) (c .before .before .before .before .before .before .before .before .before .before .before .before .before .before .pre .1) in
-    rw (c .before .before .before .before .before .before .before .before .before .max-violating-pair-nu .ensures) (c .before .before .before .before .before .before .before .before .before .before .before .before .before .before .pre .0, c .before .before .before .before .before .before .before .before .before .before .before .before .before .before .pre .1, w true, w false)
+    let z = c .before .before .before .before .before .before .before .before .before .before .before .before .before .before in
+    let a = z .args in
+    let p = problem (a .n) (a .side) (a .kind) (now (a .m)) in
+    let w = lead-below p (state (now (a .f)) (now (a .u)) (now (a .y))) (a .active) (a .n) (z .pre .1) in
+    rw (c .before .before .before .before .before .before .before .before .before .max-violating-pair-nu .ensures) (z .pre .0, z .pre .1, w _, w _)
 
 returns : tie.Need-returns
 unfolding choiceNu

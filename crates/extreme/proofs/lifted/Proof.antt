@@ -1,3 +1,4 @@
+use borrow.Author.Needs.{needs}
 use Rattle.extreme.proofs.lifted.Statement.{statement}
 use Rattle.extreme.proofs.lifted.Tie as tie
 
@@ -5,7 +6,7 @@ returns : tie.Need-returns
 returns c = rw (c .if1 .taken)
 
 returns-2 : tie.Need-returns-2
-returns-2 c = rw (c .if1 .left)
+returns-2 c = rw (c .before .if1 .left) (c .anew .ensures)
 
 pub lifted-spec : {M : Type 1} → statement M
-lifted-spec = tie.close (tie.spec returns returns-2)
+lifted-spec = tie.close (tie.spec (λ c κs. search needs) returns returns-2)

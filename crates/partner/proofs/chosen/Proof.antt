@@ -14,9 +14,9 @@ returns c = rw (c .if1 .taken)
 shared-slice-read-holder-of : tie.Need-shared-slice-read-holder-of
 shared-slice-read-holder-of c =
     let a = c .before .before .before .before .before .before .before .before .before .before .args in
-    let l = second-below (problem (a .n) (a .side) (a .kind) (now (a .m))) (state (now (a .f)) (now (a .u)) (now (a .y))) (a .floor) (leads (a .p) (a .q)) (a .active)
-    _ (rw (c .before .before .before .before .partner .ensures) at (c .before .before .h .given .1)) in
-    omega (arith, l)
+    let p = problem (a .n) (a .side) (a .kind) (now (a .m)) in
+    let s = state (now (a .f)) (now (a .u)) (now (a .y)) in
+    omega (arith, second-below p s (a .floor) (leads (a .p) (a .q)) (a .active) _ (rw (c .before .before .before .before .partner .ensures) at (c .before .before .h .given .1)))
 
 returns-2 : tie.Need-returns-2
 unfolding choice

@@ -1,4 +1,4 @@
-use Prim.Native.Nat.{_≤_, _<_, _-_}
+use Prim.Native.Nat.{_≤_, _-_}
 use mathlib.Core.Path.{_≡_, refl, _∙_}
 use native.Mathlib.Numerals.{add-one}
 use native.Mathlib.Omega.{arith}
@@ -24,10 +24,15 @@ loop-holds c = (search needs, refl)
 
 weighed-after-requires : tie.Need-weighed-after-requires Inv-loop μ-loop
 weighed-after-requires c κs =
-    let a = c .before .before .before .before .before .before .before .before .before .before .args in
+    let z = c .before .before .before .before .before .before .before .before .before .before in
+    let a = z .args in
     let s = state (now (a .f)) (now (a .u)) (now (a .y)) in
-    let l = own-index (a .side) (a .n) s (positive s (c .before .before .before .loop .j)) (a .p) (a .q) (c .before .before .before .before .before .before .before .before .before .before .pre .0 .indexed) (omega arith) (c .before .before .before .before .before .before .before .before .before .before .pre .2) (c .before .before .before .before .before .before .before .before .before .before .pre .3) in
+    let t = positive s (c .before .before .before .loop .j) in
+    let l = own-index (a .side) (a .n) s t (a .p) (a .q) (z .pre .0 .indexed) (omega arith) (z .pre .2) (z .pre .3) in
     (search needs, search needs, rw (c .own .ensures, c .before .before .before .before .before .lead-of .ensures, c .before .before .before .before .lead-of2 .ensures) l)
+
+add-j : tie.Need-add-j Inv-loop μ-loop
+add-j c = let z = c .before .before .before .before .before .before .before .before .before .before .before .pre in omega arith
 
 loop-again : tie.Need-loop-again Inv-loop μ-loop
 unfolding allAfter
@@ -37,8 +42,10 @@ returns : tie.Need-returns Inv-loop μ-loop
 returns c =
     let a = c .before .before .before .before .before .before .before .before .args in
     let e : c .before .loop .j ≡ a .active = omega arith in
+    let p = problem (a .n) (a .side) (a .kind) (now (a .m)) in
     let s = state (now (a .f)) (now (a .u)) (now (a .y)) in
-    rw e at (c .before .loop .inv .1) ∙ rw (c .before .before .before .lead-of .ensures, c .before .before .lead-of2 .ensures) (after-leads (problem (a .n) (a .side) (a .kind) (now (a .m))) s (a .floor) (a .p) (a .q) (a .active))
+    rw e at (c .before .loop .inv .1)
+    ∙ rw (c .before .before .before .lead-of .ensures, c .before .before .lead-of2 .ensures) (after-leads p s (a .floor) (a .p) (a .q) (a .active))
 
 pub partner-spec : {M : Type 1} → statement M
 partner-spec =
@@ -52,7 +59,7 @@ partner-spec =
     (λ c. search needs)
     (λ c κs. search needs)
     weighed-after-requires
-    (λ c. omega (arith, c .before .before .before .before .before .before .before .before .before .before .before .pre .1, c .before .before .before .before .before .before .before .before .before .before .before .pre .0 .indexed .small))
+    add-j
     (λ c. search needs)
     loop-again
     returns)

@@ -12,8 +12,8 @@ returns c =
 returns-2 : tie.Need-returns-2
 unfolding weighedAfter
 returns-2 c =
-    let t = rw (c .before .before .may-fall .ensures, c .before .before .before .alpha-at .ensures, c .before .before .before .before .gap-of .ensures) at (c .if1 .left) in
-    rw t
+    let t = rw (c .before .before .before .may-fall .ensures, c .before .before .before .before .alpha-at .ensures, c .before .before .before .before .before .gap-of .ensures) at (c .before .if1 .left) in
+    rw t (c .anew .ensures)
 
 pub weighed-after-spec : {M : Type 1} → statement M
 weighed-after-spec =
@@ -22,6 +22,7 @@ weighed-after-spec =
     (λ c. search needs)
     (λ c. search needs)
     (λ c. search needs)
+    (λ c κs. search needs)
     (λ c κs. search needs)
     (λ c κs. search needs)
     (λ c κs. search needs)

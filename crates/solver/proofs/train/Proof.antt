@@ -15,11 +15,12 @@ returns : tie.Need-returns
 returns c =
     let s = c .before .before .before .before .before .before .before .before .before .before .before .before .before .before .before .before .before .before .before .before .before .before .before .before .before .before .before .before in
     let k = c .before .before .before .before .before .before .before .before .before .before .before .before .solve in
-    let d = c .before .before .close in
-    (trained-by (s .args .g) (now (s .args .m)) (now (s .args .b)) (s .args .budget) (state (now (s .args .f)) (now (s .args .u)) (now (s .args .y))) _ _ _ _
-    (c .before .before .before .before .before .before .before .before .before .before .before .before .before .before .before .before .before .before .before .start .ensures) (c .before .before .before .before .before .before .before .before .before .before .before .before .before .ready .ensures .0) (k .ensures .0) (d .ensures .0),
-    d .ensures .1,
-    ready-floats (k .ensures .2) _ (d .kept .0))
+    let d = c .before .before .close in (
+      trained-by (s .args .g) (now (s .args .m)) (now (s .args .b)) (s .args .budget) (state (now (s .args .f)) (now (s .args .u)) (now (s .args .y))) _ _ _ _
+          (c .before .before .before .before .before .before .before .before .before .before .before .before .before .before .before .before .before .before .before .start .ensures) (c .before .before .before .before .before .before .before .before .before .before .before .before .before .ready .ensures .0) (k .ensures .0) (d .ensures .0),
+      d .ensures .1,
+      ready-floats (k .ensures .2) _ (d .kept .0),
+    )
 
 pub train-spec : {M : Type 1} → statement M
 train-spec =

@@ -1,27 +1,14 @@
+use mathlib.Core.Path.{_≡_, ap, _∙_}
+use Rattle.solver.specs.Run.{Full}
+use Rattle.trial.specs.Trial.{codedOf}
 use borrow.Author.Needs.{needs}
 use Rattle.trial.proofs.trial_run.Statement.{statement}
 use Rattle.trial.proofs.trial_run.Tie as tie
 
-slice-write-out-2 : tie.Need-slice-write-out-2
-slice-write-out-2 c = ?
-
-slice-write-out-3 : tie.Need-slice-write-out-3
-slice-write-out-3 c = ?
-
-slice-write-out-4 : tie.Need-slice-write-out-4
-slice-write-out-4 c = ?
-
-mul-result : tie.Need-mul-result
-mul-result c = ?
-
-add-result : tie.Need-add-result
-add-result c = ?
-
-same-length-4 : tie.Need-same-length-4
-same-length-4 c = ?
-
 returns : tie.Need-returns
-returns c = ?
+returns c =
+    let e = c .before .before .before .before .before .before .before .before .before .before .before .before .before .before .before .before .train .ensures .0 in
+    (ap (λ (w : Full). w .state) e, c .coded .ensures ∙ ap (λ (w : Full). codedOf (w .run)) e)
 
 pub trial-run-spec : {M : Type 1} → statement M
 trial-run-spec =
@@ -30,16 +17,10 @@ trial-run-spec =
     (λ c κs. search needs)
     (λ c κs. search needs)
     (λ c κs. search needs)
-    (λ c. search needs)
-    slice-write-out-2
-    slice-write-out-3
     (λ c κs. search needs)
-    slice-write-out-4
-    mul-result
     (λ c κs. search needs)
-    add-result
     (λ c. search needs)
     (λ c. search needs)
     (λ c. search needs)
-    same-length-4
+    (λ c. search needs)
     returns)

@@ -25,6 +25,18 @@ loop-holds c =
     let z = c .before .before .index-at2 .ensures in
     (search needs, refl, refl, x .1, x .0, z .1, z .0)
 
+reach-requires : tie.Need-reach-requires Inv-loop μ-loop
+reach-requires c κs =
+    let s = c .before .before .before .before .before .before .before .before .before .before in
+    let v = c .before .loop .inv in
+    (s .pre .0 .matrix, s .pre .0 .indexed, s .pre .0 .labels, v .3, omega arith)
+
+reach-requires-2 : tie.Need-reach-requires-2 Inv-loop μ-loop
+reach-requires-2 c κs =
+    let s = c .before .before .before .before .before .before .before .before .before .before .before in
+    let v = c .before .before .loop .inv in
+    (s .pre .0 .matrix, s .pre .0 .indexed, s .pre .0 .labels, v .5, omega arith)
+
 loop-again : tie.Need-loop-again Inv-loop μ-loop
 unfolding shiftedTo rowAt
 loop-again c =
@@ -35,18 +47,6 @@ returns : tie.Need-returns Inv-loop μ-loop
 returns c =
     let e : c .before .loop .k ≡ c .before .before .before .before .before .before .before .before .before .before .args .active = omega arith in
     rw e at (c .before .loop .inv .2)
-
-reach-requires-2 : tie.Need-reach-requires-2 Inv-loop μ-loop
-reach-requires-2 c κs =
-    let s = c .before .before .before .before .before .before .before .before .before .before .before in
-    let v = c .before .before .loop .inv in
-    (s .pre .0 .matrix, s .pre .0 .indexed, s .pre .0 .labels, v .5, omega arith)
-
-reach-requires : tie.Need-reach-requires Inv-loop μ-loop
-reach-requires c κs =
-    let s = c .before .before .before .before .before .before .before .before .before .before in
-    let v = c .before .loop .inv in
-    (s .pre .0 .matrix, s .pre .0 .indexed, s .pre .0 .labels, v .3, omega arith)
 
 pub shift-spec : {M : Type 1} → statement M
 shift-spec =

@@ -1,0 +1,36 @@
+-- What a trial answers.
+use Prim.Native.Nat.{ℕ, _+_, _*_}
+use mathlib.Core.Bool.{Bool, not, cond}
+use mathlib.Core.List.{List}
+use lib.Dec.{eqb, ltb}
+use lib.Ieee.{Float, binary64, ofBits}
+use lib.ListN.{set}
+use Rattle.kernel.specs.declared.Kind.the-variants.{TwoClass}
+use Rattle.rho.specs.Rho.{rhoC, rhoNu}
+use Rattle.rho.specs.declared.Level.{Level}
+use Rattle.solver.specs.End.{trained, objectiveOf}
+use Rattle.solver.specs.Run.{Full}
+use Rattle.solver.specs.declared.Given.{Given}
+use Rattle.solver.specs.declared.Run.{Run}
+use Rattle.solver.specs.declared.Status.{Status}
+use Rattle.solver.specs.declared.Status.the-variants.{Going, Done, Refused}
+use Rattle.state.specs.Lists.{State}
+
+abbrev pub codeOf : Status → ℕ
+codeOf Going = 0
+codeOf Done = 1
+codeOf Refused = 2
+
+abbrev pub givenOf : ℕ → ℕ → ℕ → Float → Given
+givenOf n nu shrinking eps =
+    record { n = n; side = n; kind = TwoClass; floor = ofBits binary64 0x3ddb_7cdf_d9d7_bdbb; eps = eps; shrinking = not (eqb shrinking 0); nu = not (eqb nu 0) }
+
+-- 4·iterations, and how the run ended
+unfoldable pub codedOf : Run → ℕ
+codedOf r = cond (ltb 10000000 (r .iterations)) 3 (4 * r .iterations + codeOf (r .status))
+
+unfoldable pub levelOf : Bool → ℕ → List Float → List ℕ → ℕ → Level
+levelOf nu n f y a = cond nu (rhoNu n f y a) (record { rho = rhoC n f y a; r = ofBits binary64 0 })
+
+abbrev pub putOf : List Float → Level → Float → List Float
+putOf o l obj = set (set (set o 0 (l .rho)) 1 (l .r)) 2 obj
