@@ -115,7 +115,10 @@ fn differs(p: &Problem, answer: &Answer, ran: &Ran) -> Option<&'static str> {
         (ran.iterations != a.iterations, "iterations"),
         (reason != a.reason, "reason"),
     ];
-    tests.into_iter().find(|(bad, _)| *bad).map(|(_, name)| name)
+    tests
+        .into_iter()
+        .find(|(bad, _)| *bad)
+        .map(|(_, name)| name)
 }
 
 fn main() -> ExitCode {
