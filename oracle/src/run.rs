@@ -42,8 +42,13 @@ pub struct Accepted {
     pub order: Vec<usize>,
     /// The weight at each position, without sign and not divided.
     pub weights: Vec<f64>,
-    /// The gradient at each position, at the end. No part of an answer.
+    /// What else stands at each position at the end: ceiling, gradient, fixed
+    /// gradient, linear term, label. No part of an answer.
+    pub ceilings: Vec<f64>,
     pub gradient: Vec<f64>,
+    pub fixed: Vec<f64>,
+    pub linear: Vec<f64>,
+    pub labels: Vec<bool>,
     /// One step a pass, where it was asked for.
     pub trace: Vec<Step>,
 }
@@ -170,7 +175,11 @@ fn read(p: &Problem, svm: &Svm<f64, f64>, seen: Seen) -> Accepted {
         home,
         order: seen.order,
         weights: seen.weights,
+        ceilings: seen.ceilings,
         gradient: seen.gradient,
+        fixed: seen.fixed,
+        linear: seen.linear,
+        labels: seen.labels,
         trace: seen.trace,
     }
 }

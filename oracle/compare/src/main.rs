@@ -1,5 +1,5 @@
-//! `compare SEED COUNT`: draws problems, runs each general one by the proved run and by the Rust, and compares order, weights
-//! and gradients by position, rho, r, obj, iterations and how the run ended. Short runs are compared after every pass.
+//! `compare SEED COUNT`: draws problems, runs each general one by the proved run and by the Rust, and compares every list by
+//! position, rho, r, obj, iterations and how the run ended. Short runs are compared after every pass.
 use oracle::marks::is_own_inverse;
 use oracle::problem::{Entry, Problem};
 use oracle::run::{canonical, solve, Answer, Outcome, Reason};
@@ -32,6 +32,7 @@ extern "C" {
 struct Ran {
     floats: Vec<f64>,
     numbers: Vec<u64>,
+    labels: Vec<u8>,
     out: [f64; 3],
     iterations: u64,
     refused: bool,
@@ -71,6 +72,7 @@ fn run(p: &Problem) -> Ran {
     Ran {
         floats,
         numbers,
+        labels,
         out,
         iterations: code / 4,
         refused: code % 4 == 2,
@@ -96,6 +98,7 @@ fn differs(p: &Problem, answer: &Answer, ran: &Ran) -> Option<&'static str> {
         Outcome::Fault(_) => return Some("oracle fault"),
     };
     let order: Vec<u64> = a.order.iter().map(|k| *k as u64).collect();
+    let labels: Vec<u8> = a.labels.iter().map(|y| u8::from(*y)).collect();
     let reason = if ran.iterations == p.budget {
         Reason::Iterations
     } else {
@@ -104,8 +107,13 @@ fn differs(p: &Problem, answer: &Answer, ran: &Ran) -> Option<&'static str> {
     let tests = [
         (ran.refused, "refused"),
         (ran.numbers[..n] != order[..], "order"),
-        (!same(&ran.floats[2 * n..3 * n], &a.weights), "weights"),
+        (ran.numbers[n..] != order[..], "kernel index"),
+        (ran.labels != labels, "labels"),
         (!same(&ran.floats[..n], &a.gradient), "gradient"),
+        (!same(&ran.floats[n..2 * n], &a.fixed), "fixed gradient"),
+        (!same(&ran.floats[2 * n..3 * n], &a.weights), "weights"),
+        (!same(&ran.floats[3 * n..4 * n], &a.ceilings), "ceilings"),
+        (!same(&ran.floats[4 * n..5 * n], &a.linear), "linear term"),
         (canonical(ran.out[0]) != canonical(a.rho), "rho"),
         (
             a.r.is_some_and(|r| canonical(ran.out[1]) != canonical(r)),

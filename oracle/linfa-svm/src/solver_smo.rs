@@ -854,7 +854,7 @@ impl<'a, F: Float, K: 'a + Permutable<F>> SolverState<'a, F, K> {
             ExitReason::ReachedThreshold
         };
 
-        crate::watch::end(&self.active_set, &self.gradient, self.alpha.iter().map(|a| a.val())); // oracle
+        crate::watch::end(&self.active_set, self.alpha.iter().map(|a| (a.val(), a.upper_bound)), [&self.gradient, &self.gradient_fixed, &self.p], &self.targets); // oracle
         // put back the solution
         let mut alpha: Vec<F> = (0..self.ntotal())
             .map(|i| self.alpha[self.active_set[i]].val())

@@ -51,8 +51,16 @@ pub struct Seen {
     pub order: Vec<usize>,
     /// The weight at each position, at the end.
     pub weights: Vec<f64>,
+    /// The ceiling that each weight carries, at the end.
+    pub ceilings: Vec<f64>,
     /// The gradient at each position, at the end.
     pub gradient: Vec<f64>,
+    /// The fixed gradient at each position, at the end.
+    pub fixed: Vec<f64>,
+    /// The linear term at each position, at the end.
+    pub linear: Vec<f64>,
+    /// The label at each position, at the end.
+    pub labels: Vec<bool>,
     keep_trace: bool,
 }
 
@@ -136,10 +144,17 @@ pub fn step<F: Float>(i: usize, j: usize, weight_i: F, weight_j: F) {
     });
 }
 
-pub fn end<F: Float>(order: &[usize], gradient: &[F], weights: impl Iterator<Item = F>) {
+pub fn end<F: Float>(
+    order: &[usize],
+    alpha: impl Iterator<Item = (F, F)>,
+    fields: [&Vec<F>; 3],
+    labels: &[bool],
+) {
+    let [gradient, fixed, linear] = fields.map(|f| f.iter().map(|x| (*x).into()).collect());
     note(|s| {
         s.order = order.to_vec();
-        s.gradient = gradient.iter().map(|x| (*x).into()).collect();
-        s.weights = weights.map(Into::into).collect();
+        (s.weights, s.ceilings) = alpha.map(|(w, b)| (w.into(), b.into())).unzip();
+        (s.gradient, s.fixed, s.linear) = (gradient, fixed, linear);
+        s.labels = labels.to_vec();
     });
 }
