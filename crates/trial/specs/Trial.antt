@@ -8,13 +8,12 @@ use lib.ListN.{set}
 use Rattle.kernel.specs.declared.Kind.the-variants.{TwoClass}
 use Rattle.rho.specs.Rho.{rhoC, rhoNu}
 use Rattle.rho.specs.declared.Level.{Level}
-use Rattle.solver.specs.End.{trained, objectiveOf}
+use Rattle.solver.specs.End.{objectiveOf}
 use Rattle.solver.specs.Run.{Full}
 use Rattle.solver.specs.declared.Given.{Given}
 use Rattle.solver.specs.declared.Run.{Run}
 use Rattle.solver.specs.declared.Status.{Status}
 use Rattle.solver.specs.declared.Status.the-variants.{Going, Done, Refused}
-use Rattle.state.specs.Lists.{State}
 
 abbrev pub codeOf : Status → ℕ
 codeOf Going = 0
@@ -34,3 +33,7 @@ levelOf nu n f y a = cond nu (rhoNu n f y a) (record { rho = rhoC n f y a; r = o
 
 abbrev pub putOf : List Float → Level → Float → List Float
 putOf o l obj = set (set (set o 0 (l .rho)) 1 (l .r)) 2 obj
+
+-- out after a run that left w
+unfoldable pub outOf : Bool → ℕ → List Float → Full → List Float
+outOf nu n o w = putOf o (levelOf nu n (w .state .floats) (w .state .labels) (w .run .active)) (objectiveOf n (w .state .floats))

@@ -5,10 +5,10 @@ ghost use mathlib.Core.Path.{_≡_};
 ghost use Prim.Native.Nat.{ℕ, _+_, _*_, _≤_};
 ghost use lib.Dec.{eqb};
 ghost use lib.ListN.{length};
-ghost use Rattle.solver.specs.End.{trained, objectiveOf};
+ghost use Rattle.solver.specs.End.{trained};
 ghost use Rattle.solver.specs.Run.{problemOf, Full, full};
 ghost use Rattle.state.specs.Lists.{State, state, Ready};
-ghost use Rattle.trial.specs.Trial.{codeOf, givenOf, codedOf, levelOf, putOf};
+ghost use Rattle.trial.specs.Trial.{codeOf, givenOf, codedOf, levelOf, putOf, outOf};
 use kernel::Kind;
 use rho::Level;
 use solver::Given;
@@ -80,6 +80,8 @@ pub extern "C" fn trial_run(
     ensures lists { λ _. ⌜ _≡_ {A = State} (state (now (f .exit)) (now (u .exit)) (now (y .exit)))
         (trained (givenOf n nu shrinking eps) (now (m .entry)) (now (b .entry)) budget (state (now (f .entry)) (now (u .entry)) (now (y .entry))) .state) ⌝ }
     ensures coded { λ c. ⌜ c ≡ codedOf (trained (givenOf n nu shrinking eps) (now (m .entry)) (now (b .entry)) budget (state (now (f .entry)) (now (u .entry)) (now (y .entry))) .run) ⌝ }
+    ensures out { λ _. ⌜ now (out .exit) ≡ outOf (not (eqb nu 0)) n (now (out .entry))
+        (trained (givenOf n nu shrinking eps) (now (m .entry)) (now (b .entry)) budget (state (now (f .entry)) (now (u .entry)) (now (y .entry)))) ⌝ }
 {
     let g = Given {
         n,
