@@ -1,6 +1,8 @@
 // The two readings of a trained run's weights.
 ghost use mathlib.Core.Path.{_≡_};
-ghost use lib.ListN.{take};
+ghost use Prim.Native.Nat.{_+_, _*_, _≤_, _<_};
+ghost use lib.ListN.{length, take};
+ghost use Rattle.readings.specs.Order.{Within, crateReading, homeReading, weightIn};
 ghost use Rattle.readings.specs.Shown.{shownOf};
 
 // The crate's reading, or the home reading.
@@ -23,5 +25,27 @@ pub fn shown<'a>(reading: &'a [f64], home: &'a [f64], which: Reading, n: usize) 
     match which {
         Reading::Crate => prefix(reading, n),
         Reading::Home => prefix(home, n),
+    }
+}
+
+// The crate's reading: place k of the result gets the weight at position u[k].
+pub fn read_crate(res: &mut [f64], f: &[f64], u: &[u64], n: usize)
+    requires { ⌜ (n ≤ 512) × (n ≤ length (now res)) × (7 * n ≤ length (now f)) × (Within n (now u)) ⌝ }
+    ensures { λ _. ⌜ now (res .exit) ≡ crateReading n (now (u .entry)) (weightIn n (now (f .entry))) (now (res .entry)) ⌝ }
+{
+    for k in 0..n {
+        let at = u[k] as usize;
+        res[k] = f[2 * n + at];
+    }
+}
+
+// The home reading: place u[k] of the result gets the weight at position k.
+pub fn read_home(res: &mut [f64], f: &[f64], u: &[u64], n: usize)
+    requires { ⌜ (n ≤ 512) × (n ≤ length (now res)) × (7 * n ≤ length (now f)) × (Within n (now u)) ⌝ }
+    ensures { λ _. ⌜ now (res .exit) ≡ homeReading n (now (u .entry)) (weightIn n (now (f .entry))) (now (res .entry)) ⌝ }
+{
+    for k in 0..n {
+        let home = u[k] as usize;
+        res[home] = f[2 * n + k];
     }
 }
