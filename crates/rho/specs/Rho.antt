@@ -80,3 +80,7 @@ levelOf a b = record { rho = div binary64 (sub binary64 a b) two; r = div binary
 
 abbrev pub rhoNu : ℕ → List Float → List ℕ → ℕ → Level
 rhoNu n f y a = levelOf (middle (shareNu n f y 1 a)) (middle (shareNu n f y 0 a))
+
+-- by the rule that holds; r is +0 without the nu rule
+unfoldable pub levelBy : Bool → ℕ → List Float → List ℕ → ℕ → Level
+levelBy nu n f y a = cond nu (rhoNu n f y a) (record { rho = rhoC n f y a; r = ofBits binary64 0 })

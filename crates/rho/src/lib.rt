@@ -3,7 +3,7 @@ ghost use mathlib.Core.Path.{_≡_};
 ghost use Prim.Native.Nat.{_+_, _*_, _≤_, _<_};
 ghost use lib.ListN.{length};
 ghost use Rattle.rho.specs.Rho as Rho;
-ghost use Rattle.rho.specs.Rho.{signed, weighedC, weighedNu, joinedNu, shareC, shareNu, middle, rhoC, rhoNu};
+ghost use Rattle.rho.specs.Rho.{signed, weighedC, weighedNu, joinedNu, shareC, shareNu, middle, rhoC, rhoNu, levelBy};
 use alpha::Alpha;
 
 // What the positions so far say: how many are free and the sum of their gradients, and the two bounds.
@@ -176,5 +176,20 @@ pub fn calculate_rho_nu(f: &[f64], y: &[u8], n: usize, active: usize) -> Level
     Level {
         rho: (a - b) / 2.0,
         r: (a + b) / 2.0,
+    }
+}
+
+// By the rule that holds; r is +0 without the nu rule.
+pub fn level_by(f: &[f64], y: &[u8], n: usize, active: usize, nu: bool) -> Level
+    requires { ⌜ (active ≤ n) × (n ≤ 512) × (7 * n ≤ length (now f)) × (n ≤ length (now y)) ⌝ }
+    ensures { λ l. ⌜ l ≡ levelBy nu n (now (f .entry)) (now (y .entry)) active ⌝ }
+{
+    if nu {
+        calculate_rho_nu(f, y, n, active)
+    } else {
+        Level {
+            rho: calculate_rho(f, y, n, active),
+            r: 0.0,
+        }
     }
 }

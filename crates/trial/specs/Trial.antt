@@ -6,7 +6,7 @@ use lib.Dec.{eqb, ltb}
 use lib.Ieee.{Float, binary64, ofBits}
 use lib.ListN.{set}
 use Rattle.kernel.specs.declared.Kind.the-variants.{TwoClass}
-use Rattle.rho.specs.Rho.{rhoC, rhoNu}
+use Rattle.rho.specs.Rho.{levelBy}
 use Rattle.rho.specs.declared.Level.{Level}
 use Rattle.solver.specs.End.{objectiveOf}
 use Rattle.solver.specs.Run.{Full}
@@ -28,12 +28,9 @@ givenOf n nu shrinking eps =
 unfoldable pub codedOf : Run → ℕ
 codedOf r = cond (ltb 10000000 (r .iterations)) 3 (4 * r .iterations + codeOf (r .status))
 
-unfoldable pub levelOf : Bool → ℕ → List Float → List ℕ → ℕ → Level
-levelOf nu n f y a = cond nu (rhoNu n f y a) (record { rho = rhoC n f y a; r = ofBits binary64 0 })
-
 abbrev pub putOf : List Float → Level → Float → List Float
 putOf o l obj = set (set (set o 0 (l .rho)) 1 (l .r)) 2 obj
 
 -- out after a run that left w
 unfoldable pub outOf : Bool → ℕ → List Float → Full → List Float
-outOf nu n o w = putOf o (levelOf nu n (w .state .floats) (w .state .labels) (w .run .active)) (objectiveOf n (w .state .floats))
+outOf nu n o w = putOf o (levelBy nu n (w .state .floats) (w .state .labels) (w .run .active)) (objectiveOf n (w .state .floats))

@@ -8,7 +8,7 @@ ghost use lib.ListN.{length};
 ghost use Rattle.solver.specs.End.{trained};
 ghost use Rattle.solver.specs.Run.{problemOf, Full, full};
 ghost use Rattle.state.specs.Lists.{State, state, Ready};
-ghost use Rattle.trial.specs.Trial.{codeOf, givenOf, codedOf, levelOf, putOf, outOf};
+ghost use Rattle.trial.specs.Trial.{codeOf, givenOf, codedOf, putOf, outOf};
 use kernel::Kind;
 use rho::Level;
 use solver::Given;
@@ -35,20 +35,6 @@ fn coded(r: Run) -> u64
         return 3;
     }
     4 * (passes as u64) + code(s)
-}
-
-fn level(f: &[f64], y: &[u8], n: usize, active: usize, nu: bool) -> Level
-    requires { ⌜ (active ≤ n) × (n ≤ 512) × (7 * n ≤ length (now f)) × (n ≤ length (now y)) ⌝ }
-    ensures { λ l. ⌜ l ≡ levelOf nu n (now (f .entry)) (now (y .entry)) active ⌝ }
-{
-    if nu {
-        rho::calculate_rho_nu(f, y, n, active)
-    } else {
-        Level {
-            rho: rho::calculate_rho(f, y, n, active),
-            r: 0.0,
-        }
-    }
 }
 
 fn put(out: &mut [f64], l: Level, obj: f64)
@@ -94,7 +80,7 @@ pub extern "C" fn trial_run(
     };
     let r = solver::train(f, u, y, m, b, g, budget);
     let active = r.active;
-    let l = level(f, y, n, active, nu != 0);
+    let l = rho::level_by(f, y, n, active, nu != 0);
     put(out, l, solver::objective(f, n));
     coded(r)
 }

@@ -16,7 +16,7 @@ returns c =
       ap (λ (w : Full). w .state) e,
       (
         c .coded .ensures ∙ ap (λ (w : Full). codedOf (w .run)) e,
-        rw (c .before .before .before .put .ensures, c .before .before .before .before .before .before .before .level .ensures, c .before .before .before .before .objective .ensures)
+        rw (c .before .before .before .put .ensures, c .before .before .before .before .before .before .before .level-by .ensures, c .before .before .before .before .objective .ensures)
             (ap (λ (w : Full). outOf (not (eqb (s .args .nu) 0)) (s .args .n) (now (s .args .out)) w) e),
       ),
     )

@@ -1,16 +1,16 @@
-use Rattle.trial.specs.Trial.{levelOf}
+use Rattle.rho.specs.Rho.{levelBy}
 use borrow.Author.Needs.{needs}
-use Rattle.trial.proofs.level.Statement.{statement}
-use Rattle.trial.proofs.level.Tie as tie
+use Rattle.rho.proofs.level_by.Statement.{statement}
+use Rattle.rho.proofs.level_by.Tie as tie
 
 returns : tie.Need-returns
-unfolding levelOf
+unfolding levelBy
 returns c = rw (c .before .if1 .taken) (c .calculate-rho-nu .ensures)
 
 returns-2 : tie.Need-returns-2
-unfolding levelOf
+unfolding levelBy
 returns-2 c = rw (c .before .if1 .left, c .calculate-rho .ensures)
 
-pub level-spec : {M : Type 1} → statement M
-level-spec =
+pub level-by-spec : {M : Type 1} → statement M
+level-by-spec =
     tie.close (tie.spec (λ c κs. search needs) (λ c κs. search needs) returns returns-2)

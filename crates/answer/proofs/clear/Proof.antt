@@ -1,0 +1,20 @@
+use borrow.Author.Needs.{needs}
+use Rattle.answer.proofs.clear.Statement.{statement}
+use Rattle.answer.proofs.clear.Tie as tie
+
+returns : tie.Need-returns
+returns c = rw (c .before .before .clear-bytes .ensures, c .before .before .before .before .before .before .clear-numbers .ensures, c .before .before .before .before .before .before .before .before .before .before .clear-floats .ensures)
+
+pub clear-spec : {M : Type 1} → statement M
+clear-spec =
+    tie.close
+    (tie.spec
+    (λ c. search needs)
+    (λ c κs. search needs)
+    (λ c. search needs)
+    (λ c κs. search needs)
+    (λ c κs. search needs)
+    (λ c. search needs)
+    (λ c. search needs)
+    (λ c. search needs)
+    returns)

@@ -1,0 +1,5 @@
+pub mod Rests
+pub mod Kept
+pub mod Passes
+pub mod Trace
+pub mod Left

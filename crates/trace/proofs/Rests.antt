@@ -1,0 +1,140 @@
+-- What a start and a reconstruction leave as it was. Assumes nothing.
+use Prim.Native.Nat.{ℕ, zero, suc, _+_, _-_, _*_, _≤_, _<_}
+use mathlib.Core.Bool.{Bool, true, false, cond}
+use mathlib.Core.List.{List}
+use mathlib.Core.Path.{_≡_, refl, _∙_}
+use native.Mathlib.Omega.{arith}
+use lib.Dec.{eqb, ltb}
+use lib.Ieee.{Float, nan}
+use lib.ListN.{length, getD, set, length-set}
+use lib.Seq.{getD-set-other}
+use Rattle.alpha.specs.Weight.{atUpper, atLower, isFree, zero as nought}
+use Rattle.alpha.specs.declared.Alpha.{Alpha}
+use Rattle.reconstruct.specs.Reconstruct.{freshTo, freeTo, outerBy, outerAt, outerTo, innerBy, innerAt, innerTo, branched, reconstructed, withFloats}
+use Rattle.rows.specs.Added.{rowAdded}
+use Rattle.start.specs.Start.{laidTo, diagonalTo, joinedBy, joined, gatheredTo, started}
+use Rattle.state.specs.Fields.{alpha, bound}
+use Rattle.state.specs.Lists.{Problem, State, state}
+use Rattle.update.proofs.Filled.{length-rowAdded, rowAdded-other}
+
+-- h is as long as f, and has what f has at the places from lo on and below hi
+pub record Same (lo hi : ℕ) (f h : List Float) : Type 0 where
+  pub long : length h ≡ length f
+  pub at : (q : ℕ) → lo ≤ q → q < hi → getD h q nan ≡ getD f q nan
+
+module _ (lo hi : ℕ) where
+  same-refl : (f : List Float) → Same lo hi f f
+  same-refl f = record { long = refl; at = λ q a b. refl }
+
+  same-trans : (f g h : List Float) → Same lo hi f g → Same lo hi g h → Same lo hi f h
+  same-trans f g h x y = record { long = y .long ∙ x .long; at = λ q a b. y .at q a b ∙ x .at q a b }
+
+  same-set : (f : List Float) (k : ℕ) (x : Float) → ((q : ℕ) → lo ≤ q → q < hi → q ≡ k → ⊥) → Same lo hi f (set f k x)
+  same-set f k x out = record { long = length-set f k x; at = λ q a b. getD-set-other f k q x nan (out q a b) }
+
+  same-either : (f g h : List Float) (x : Bool) → Same lo hi f g → Same lo hi f h → Same lo hi f (cond x g h)
+  same-either f g h true a b = a
+  same-either f g h false a b = b
+
+  same-row : (p : Problem) (s : State) (base : ℕ) (x : Float) (i from k : ℕ) → ((q h : ℕ) → lo ≤ q → q < hi → h < k → q ≡ base + (from + h) → ⊥)
+      → Same lo hi (s .floats) (rowAdded p s base x i from k)
+  same-row p s base x i from k out =
+      record { long = length-rowAdded p s base x i from k; at = λ q a b. rowAdded-other p s base x i from k q (λ h c. out q h a b c) }
+
+-- ---- the start: weights, ceilings and linear terms stay
+
+module _ (p : Problem) (b : List Float) where
+  abbrev Stays : List Float → List Float → Type 0
+  Stays = Same (2 * p .n) (5 * p .n)
+
+  same-laid : (f : List Float) (k : ℕ) → k ≤ p .n → Stays f (laidTo (p .n) f k)
+  unfolding laidTo
+  same-laid f zero l = same-refl (2 * p .n) (5 * p .n) f
+  same-laid f (suc k) l =
+      let g = laidTo (p .n) f k in
+      let x = getD g (4 * p .n + k) nan in
+      same-trans (2 * p .n) (5 * p .n) f (set g k x) (set (set g k x) (p .n + k) nought)
+      (same-trans (2 * p .n) (5 * p .n) f g (set g k x) (same-laid f k (omega arith)) (same-set (2 * p .n) (5 * p .n) g k x (λ q c d e. omega arith)))
+      (same-set (2 * p .n) (5 * p .n) (set g k x) (p .n + k) nought (λ q c d e. omega arith))
+
+  same-diagonal : (f : List Float) (k : ℕ) → Stays f (diagonalTo (p .n) (p .side) (p .matrix) f k)
+  unfolding diagonalTo
+  same-diagonal f zero = same-refl (2 * p .n) (5 * p .n) f
+  same-diagonal f (suc k) =
+      let g = diagonalTo (p .n) (p .side) (p .matrix) f k in
+      same-trans (2 * p .n) (5 * p .n) f g _ (same-diagonal f k) (same-set (2 * p .n) (5 * p .n) g (5 * p .n + k) _ (λ q c d e. omega arith))
+
+  same-joined : (s : State) (i : ℕ) (w : Alpha) → Stays (s .floats) (joinedBy p b s i w)
+  unfolding joinedBy
+  same-joined s i w =
+      let f = rowAdded p s 0 (w .value) i 0 (p .n) in
+      let one = same-row (2 * p .n) (5 * p .n) p s 0 (w .value) i 0 (p .n) (λ q h c d l e. omega arith) in
+      let two = same-row (2 * p .n) (5 * p .n) p (state f (s .numbers) (s .labels)) (p .n) (bound b i) i 0 (p .n) (λ q h c d l e. omega arith) in
+      same-either (2 * p .n) (5 * p .n) (s .floats) (s .floats) _ (atLower w) (same-refl (2 * p .n) (5 * p .n) (s .floats))
+      (same-either (2 * p .n) (5 * p .n) (s .floats) _ f (atUpper w) (same-trans (2 * p .n) (5 * p .n) (s .floats) f _ one two) one)
+
+  same-gathered : (s : State) (k : ℕ) → Stays (s .floats) (gatheredTo p b s k)
+  unfolding gatheredTo
+  same-gathered s zero = same-refl (2 * p .n) (5 * p .n) (s .floats)
+  same-gathered s (suc k) =
+      let f = gatheredTo p b s k in
+      let t = state f (s .numbers) (s .labels) in
+      same-trans (2 * p .n) (5 * p .n) (s .floats) f (joined p b t k) (same-gathered s k) (same-joined t k (alpha p t k))
+
+  pub same-started : (s : State) → Stays (s .floats) (started p b s)
+  unfolding started
+  same-started s =
+      let f = laidTo (p .n) (s .floats) (p .n) in
+      let g = diagonalTo (p .n) (p .side) (p .matrix) f (p .side) in
+      same-trans (2 * p .n) (5 * p .n) (s .floats) g _
+      (same-trans (2 * p .n) (5 * p .n) (s .floats) f g (same-laid (s .floats) (p .n) (omega arith)) (same-diagonal f (p .side)))
+      (same-gathered (state g (s .numbers) (s .labels)) (p .n))
+
+-- ---- reconstruction: all but gradients stays
+
+module _ (p : Problem) (a : ℕ) (A : a ≤ p .n) (hi : ℕ) where
+  same-fresh : (f : List Float) (k : ℕ) → k ≤ p .n - a → Same (p .n) hi f (freshTo (p .n) a f k)
+  unfolding freshTo
+  same-fresh f zero l = same-refl (p .n) hi f
+  same-fresh f (suc k) l =
+      let g = freshTo (p .n) a f k in
+      same-trans (p .n) hi f g _ (same-fresh f k (omega arith)) (same-set (p .n) hi g (a + k) _ (λ q c d e. omega arith))
+
+  same-outer-one : (s : State) (i : ℕ) (w : Alpha) → i < p .n → Same (p .n) hi (s .floats) (outerBy p s a i w)
+  unfolding outerBy
+  same-outer-one s i w l =
+      same-either (p .n) hi (s .floats) _ (s .floats) (isFree w) (same-set (p .n) hi (s .floats) i _ (λ q c d e. omega arith)) (same-refl (p .n) hi (s .floats))
+
+  same-outer : (s : State) (k : ℕ) → k ≤ p .n - a → Same (p .n) hi (s .floats) (outerTo p a s k)
+  unfolding outerTo
+  same-outer s zero l = same-refl (p .n) hi (s .floats)
+  same-outer s (suc k) l =
+      let f = outerTo p a s k in
+      let t = withFloats s f in
+      same-trans (p .n) hi (s .floats) f (outerAt p t a (a + k)) (same-outer s k (omega arith)) (same-outer-one t (a + k) (alpha p t (a + k)) (omega arith))
+
+  same-inner-one : (s : State) (i : ℕ) (w : Alpha) → Same (p .n) hi (s .floats) (innerBy p s a i w)
+  unfolding innerBy
+  same-inner-one s i w =
+      same-either (p .n) hi (s .floats) _ (s .floats) (isFree w)
+      (same-row (p .n) hi p s 0 (w .value) i a (p .n - a) (λ q h c d l e. omega arith)) (same-refl (p .n) hi (s .floats))
+
+  same-inner : (s : State) (k : ℕ) → Same (p .n) hi (s .floats) (innerTo p a s k)
+  unfolding innerTo
+  same-inner s zero = same-refl (p .n) hi (s .floats)
+  same-inner s (suc k) =
+      let f = innerTo p a s k in
+      let t = withFloats s f in
+      same-trans (p .n) hi (s .floats) f (innerAt p t a k) (same-inner s k) (same-inner-one t k (alpha p t k))
+
+  same-branched : (s : State) → Same (p .n) hi (s .floats) (branched p a s)
+  unfolding branched
+  same-branched s =
+      same-either (p .n) hi (s .floats) _ _ (ltb (2 * a * (p .n - a)) (freeTo (p .n) (s .floats) a * p .n)) (same-outer s (p .n - a) (omega arith)) (same-inner s a)
+
+  pub same-reconstructed : (s : State) → Same (p .n) hi (s .floats) (reconstructed p a s)
+  unfolding reconstructed
+  same-reconstructed s =
+      let f = freshTo (p .n) a (s .floats) (p .n - a) in
+      same-either (p .n) hi (s .floats) (s .floats) _ (eqb a (p .n)) (same-refl (p .n) hi (s .floats))
+      (same-trans (p .n) hi (s .floats) f _ (same-fresh (s .floats) (p .n - a) (omega arith)) (same-branched (withFloats s f)))
