@@ -1,9 +1,9 @@
 -- The five lists that are lent to be written.
-use Prim.Native.Nat.{ℕ, zero, suc, _*_}
+use Prim.Native.Nat.{ℕ, _*_}
 use mathlib.Core.List.{List}
 use lib.Ieee.{Float}
-use lib.ListN.{set}
 use Rattle.alpha.specs.Weight as Weight
+use Rattle.lists.specs.Filled.{filledTo}
 use Rattle.state.specs.Lists.{State}
 use Rattle.answer.specs.declared.Outcome.{Outcome}
 
@@ -27,11 +27,6 @@ whole o c h f u y = record { out = o; left = lent c h f u y }
 
 abbrev pub untouched : Outcome → Lent → Whole
 untouched o d = record { out = o; left = d }
-
--- the first k places hold x
-unfoldable pub filledTo : {A : Type 0} → A → List A → ℕ → List A
-filledTo x d zero = d
-filledTo x d (suc k) = set (filledTo x d k) k x
 
 -- the used scratch is all +0
 abbrev pub cleared : ℕ → State → State

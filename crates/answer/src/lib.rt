@@ -3,14 +3,13 @@ ghost use mathlib.Core.Path.{_≡_};
 ghost use mathlib.Core.Bool.{Bool, true, false};
 ghost use Prim.Native.Nat.{ℕ, _+_, _*_, _≤_, _<_};
 ghost use lib.ListN.{length};
-ghost use Rattle.alpha.specs.Weight as Weight;
 ghost use Rattle.readings.specs.Order.{Within, crateReading, homeReading, weightIn};
 ghost use Rattle.solver.specs.End.{trained};
 ghost use Rattle.solver.specs.Run.{problemOf, Full, full};
 ghost use Rattle.state.specs.Lists.{State, state, Ready};
 ghost use Rattle.travel.specs.Travel.{Paired};
 ghost use Rattle.answer.specs.Answer.{signedBy, coefficientOf, finishedTo, countedBy, supportOf, rhoOf, objOf, ratioOf, reasonOf};
-ghost use Rattle.answer.specs.Lent.{lent, Whole, whole, filledTo, cleared};
+ghost use Rattle.answer.specs.Lent.{lent, Whole, whole, cleared};
 ghost use Rattle.answer.specs.Solved.{stuck, Read, read, answerOf, crateOf, homeOf, levelAt, settledOf, solved};
 use rho::Level;
 use solver::Given;
@@ -203,41 +202,14 @@ fn settle(
     Outcome::Accepted(answer)
 }
 
-fn clear_floats(f: &mut [f64], m: usize)
-    requires { ⌜ m ≤ length (now f) ⌝ }
-    ensures { λ _. ⌜ now (f .exit) ≡ filledTo Weight.zero (now (f .entry)) m ⌝ }
-{
-    for k in 0..m {
-        f[k] = 0.0;
-    }
-}
-
-fn clear_numbers(u: &mut [u64], m: usize)
-    requires { ⌜ m ≤ length (now u) ⌝ }
-    ensures { λ _. ⌜ now (u .exit) ≡ filledTo 0 (now (u .entry)) m ⌝ }
-{
-    for k in 0..m {
-        u[k] = 0;
-    }
-}
-
-fn clear_bytes(y: &mut [u8], m: usize)
-    requires { ⌜ m ≤ length (now y) ⌝ }
-    ensures { λ _. ⌜ now (y .exit) ≡ filledTo 0 (now (y .entry)) m ⌝ }
-{
-    for k in 0..m {
-        y[k] = 0;
-    }
-}
-
 // The used scratch is all +0.
 fn clear(f: &mut [f64], u: &mut [u64], y: &mut [u8], n: usize)
     requires { ⌜ (n ≤ 512) × (7 * n ≤ length (now f)) × (2 * n ≤ length (now u)) × (n ≤ length (now y)) ⌝ }
     ensures { λ _. ⌜ _≡_ {A = State} (state (now (f .exit)) (now (u .exit)) (now (y .exit))) (cleared n (state (now (f .entry)) (now (u .entry)) (now (y .entry)))) ⌝ }
 {
-    clear_floats(f, 7 * n);
-    clear_numbers(u, 2 * n);
-    clear_bytes(y, n);
+    lists::fill_floats(f, 0.0, 7 * n);
+    lists::fill_numbers(u, 0, 2 * n);
+    lists::fill_bytes(y, 0, n);
 }
 
 // A run over loaded lists: every entry ends here.

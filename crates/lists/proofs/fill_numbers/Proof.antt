@@ -3,17 +3,16 @@ use mathlib.Core.Path.{_≡_, refl}
 use native.Mathlib.Numerals.{add-one}
 use native.Mathlib.Omega.{arith}
 use lib.ListN.{length}
-use Rattle.alpha.specs.Weight as Weight
-use Rattle.answer.specs.Lent.{filledTo}
+use Rattle.lists.specs.Filled.{filledTo}
 use borrow.Author.Needs.{needs}
-use Rattle.answer.proofs.clear_floats.Statement.{statement}
-use Rattle.answer.proofs.clear_floats.Tie as tie
+use Rattle.lists.proofs.fill_numbers.Statement.{statement}
+use Rattle.lists.proofs.fill_numbers.Tie as tie
 
 abbrev Inv-loop : tie.InvT-loop
-Inv-loop f₀ m k₀ f k = (k ≤ m) × (length f ≡ length f₀) × (f ≡ filledTo Weight.zero f₀ k)
+Inv-loop d₀ x n k₀ d k = (k ≤ n) × (length d ≡ length d₀) × (d ≡ filledTo x d₀ k)
 
 abbrev μ-loop : tie.MeasureT-loop
-μ-loop f₀ m k₀ f k = m - k
+μ-loop d₀ x n k₀ d k = n - k
 
 loop-holds : tie.Need-loop-holds Inv-loop μ-loop
 unfolding filledTo
@@ -24,10 +23,10 @@ unfolding filledTo
 loop-again c = (search needs, search needs, rw (add-one, ← c .before .loop .inv .2))
 
 returns : tie.Need-returns Inv-loop μ-loop
-returns c = let e : c .before .loop .k ≡ c .before .before .args .m = omega arith in rw e at (c .before .loop .inv .2)
+returns c = let e : c .before .loop .k ≡ c .before .before .args .n = omega arith in rw e at (c .before .loop .inv .2)
 
-pub clear-floats-spec : {M : Type 1} → statement M
-clear-floats-spec =
+pub fill-numbers-spec : {M : Type 1} → statement M
+fill-numbers-spec =
     tie.close
     (tie.spec
     Inv-loop

@@ -3,16 +3,16 @@ use mathlib.Core.Path.{_≡_, refl}
 use native.Mathlib.Numerals.{add-one}
 use native.Mathlib.Omega.{arith}
 use lib.ListN.{length}
-use Rattle.answer.specs.Lent.{filledTo}
+use Rattle.lists.specs.Filled.{filledTo}
 use borrow.Author.Needs.{needs}
-use Rattle.answer.proofs.clear_bytes.Statement.{statement}
-use Rattle.answer.proofs.clear_bytes.Tie as tie
+use Rattle.lists.proofs.fill_floats.Statement.{statement}
+use Rattle.lists.proofs.fill_floats.Tie as tie
 
 abbrev Inv-loop : tie.InvT-loop
-Inv-loop y₀ m k₀ y k = (k ≤ m) × (length y ≡ length y₀) × (y ≡ filledTo 0 y₀ k)
+Inv-loop d₀ x n k₀ d k = (k ≤ n) × (length d ≡ length d₀) × (d ≡ filledTo x d₀ k)
 
 abbrev μ-loop : tie.MeasureT-loop
-μ-loop y₀ m k₀ y k = m - k
+μ-loop d₀ x n k₀ d k = n - k
 
 loop-holds : tie.Need-loop-holds Inv-loop μ-loop
 unfolding filledTo
@@ -23,15 +23,16 @@ unfolding filledTo
 loop-again c = (search needs, search needs, rw (add-one, ← c .before .loop .inv .2))
 
 returns : tie.Need-returns Inv-loop μ-loop
-returns c = let e : c .before .loop .k ≡ c .before .before .args .m = omega arith in rw e at (c .before .loop .inv .2)
+returns c = let e : c .before .loop .k ≡ c .before .before .args .n = omega arith in rw e at (c .before .loop .inv .2)
 
-pub clear-bytes-spec : {M : Type 1} → statement M
-clear-bytes-spec =
+pub fill-floats-spec : {M : Type 1} → statement M
+fill-floats-spec =
     tie.close
     (tie.spec
     Inv-loop
     μ-loop
     loop-holds
+    (λ c. search needs)
     (λ c. search needs)
     (λ c. search needs)
     (λ c. search needs)

@@ -1,0 +1,12 @@
+use borrow.Author.Needs.{needs}
+use Rattle.fits.proofs.cost.Statement.{statement}
+use Rattle.fits.proofs.cost.Tie as tie
+
+returns : tie.Need-returns
+returns c = ?
+
+returns-2 : tie.Need-returns-2
+returns-2 c = ?
+
+pub cost-spec : {M : Type 1} → statement M
+cost-spec = tie.close (tie.spec returns returns-2)

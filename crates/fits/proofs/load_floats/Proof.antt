@@ -1,0 +1,49 @@
+use borrow.Author.Needs.{needs}
+use Rattle.fits.proofs.load_floats.Statement.{statement}
+use Rattle.fits.proofs.load_floats.Tie as tie
+
+abbrev Inv-loop : tie.InvT-loop
+Inv-loop f₀ c a p n k₀ f k = ?
+
+abbrev μ-loop : tie.MeasureT-loop
+μ-loop f₀ c a p n k₀ f k = ?
+
+loop-holds : tie.Need-loop-holds Inv-loop μ-loop
+loop-holds c = ?
+
+loop-again : tie.Need-loop-again Inv-loop μ-loop
+loop-again c = ?
+
+returns : tie.Need-returns Inv-loop μ-loop
+returns c = ?
+
+pub load-floats-spec : {M : Type 1} → statement M
+load-floats-spec =
+    tie.close
+    (tie.spec
+    Inv-loop
+    μ-loop
+    loop-holds
+    (λ c. search needs)
+    (λ c. search needs)
+    (λ c. search needs)
+    (λ c. search needs)
+    (λ c. search needs)
+    (λ c. search needs)
+    (λ c. search needs)
+    (λ c. search needs)
+    (λ c. search needs)
+    (λ c. search needs)
+    (λ c. search needs)
+    (λ c. search needs)
+    (λ c. search needs)
+    (λ c. search needs)
+    (λ c. search needs)
+    (λ c. search needs)
+    (λ c. search needs)
+    (λ c. search needs)
+    (λ c. search needs)
+    (λ c. search needs)
+    loop-again
+    (λ c. search needs)
+    returns)
