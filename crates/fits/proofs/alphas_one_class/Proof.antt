@@ -1,21 +1,29 @@
+use Prim.Native.Nat.{_≤_, _<_, _-_}
+use mathlib.Core.Path.{_≡_, refl}
+use native.Mathlib.Numerals.{add-one}
+use native.Mathlib.Omega.{arith}
+use lib.ListN.{length}
+use Rattle.fits.specs.Starts.{oneClassTo}
 use borrow.Author.Needs.{needs}
 use Rattle.fits.proofs.alphas_one_class.Statement.{statement}
 use Rattle.fits.proofs.alphas_one_class.Tie as tie
 
 abbrev Inv-loop : tie.InvT-loop
-Inv-loop d₀ nu n k₀ d k = ?
+Inv-loop d₀ nu n k₀ d k = (k ≤ n) × (length d ≡ length d₀) × (d ≡ oneClassTo nu n d₀ k)
 
 abbrev μ-loop : tie.MeasureT-loop
-μ-loop d₀ nu n k₀ d k = ?
+μ-loop d₀ nu n k₀ d k = n - k
 
 loop-holds : tie.Need-loop-holds Inv-loop μ-loop
-loop-holds c = ?
+unfolding oneClassTo
+loop-holds c = (search needs, refl, refl)
 
 loop-again : tie.Need-loop-again Inv-loop μ-loop
-loop-again c = ?
+unfolding oneClassTo
+loop-again c = (search needs, search needs, rw (add-one, ← c .before .before .loop .inv .2, ← c .one-class-alpha .ensures))
 
 returns : tie.Need-returns Inv-loop μ-loop
-returns c = ?
+returns c = let e : c .before .loop .k ≡ c .before .before .before .args .n = omega arith in rw e at (c .before .loop .inv .2)
 
 pub alphas-one-class-spec : {M : Type 1} → statement M
 alphas-one-class-spec =

@@ -1,12 +1,13 @@
+use borrow.Author.Tests.{eq-eqb, ne-eqb}
 use borrow.Author.Needs.{needs}
 use Rattle.fits.proofs.cost.Statement.{statement}
 use Rattle.fits.proofs.cost.Tie as tie
 
 returns : tie.Need-returns
-returns c = ?
+returns c = rw (eq-eqb _ _ (c .if1 .taken))
 
 returns-2 : tie.Need-returns-2
-returns-2 c = ?
+returns-2 c = rw (ne-eqb _ _ (c .if1 .left))
 
 pub cost-spec : {M : Type 1} → statement M
 cost-spec = tie.close (tie.spec returns returns-2)
