@@ -3,3 +3,4 @@ pub mod Bits
 pub mod Quick
 pub mod Lengths
 pub mod Accepted
+pub mod Worked

@@ -1,0 +1,38 @@
+use mathlib.Core.Path.{sym, _∙_}
+use denote.Ref.{now}
+use borrow.Author.Tests.{eq-eqb, ne-eqb}
+use lib.ListN.{length}
+use Rattle.judge.proofs.Lengths.{inputs-of, room-of}
+use Rattle.classification.specs.Entries.{entered, fitCOf}
+use Rattle.classification.proofs.Laws.{one-long}
+use borrow.Author.Needs.{needs}
+use Rattle.classification.proofs.fit_c.Statement.{statement}
+use Rattle.classification.proofs.fit_c.Tie as tie
+
+fit-c-sized-requires : tie.Need-fit-c-sized-requires
+fit-c-sized-requires c κs =
+    let s = c .before .before .before .before .before .before .before .before .before .before .before .before .before .before in
+    let h = sym (c .before .before .before .before .before .before .sized .ensures) ∙ c .before .before .before .before .before .if1 .taken in
+    (room-of _ _ _ _ _ _ _ _ h, one-long (s .args .n) (length (now (s .args .l))) (inputs-of _ _ _ _ _ _ _ _ h))
+
+returns : tie.Need-returns
+unfolding fitCOf entered
+returns c = rw (← c .before .before .before .before .before .before .before .before .before .before .before .before .before .before .before .before .before .sized .ensures, eq-eqb _ _ (c .before .before .before .before .before .before .before .before .before .before .before .before .before .before .before .before .if1 .taken)) (c .before .before .before .before .before .before .before .before .before .before .fit-c-sized .ensures)
+
+returns-2 : tie.Need-returns-2
+unfolding fitCOf entered
+returns-2 c = rw (← c .before .sized .ensures, ne-eqb _ _ (c .if1 .left))
+
+pub fit-c-spec : {M : Type 1} → statement M
+fit-c-spec =
+    tie.close
+    (tie.spec
+    (λ c κs. search needs)
+    fit-c-sized-requires
+    (λ c. search needs)
+    (λ c. search needs)
+    (λ c. search needs)
+    (λ c. search needs)
+    (λ c. search needs)
+    returns
+    returns-2)

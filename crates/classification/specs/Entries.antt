@@ -1,0 +1,99 @@
+-- The four entries: refusals, else the run and its answer (the rule, sections 'What a caller lends and gets' and 'Fits').
+use Prim.Native.Nat.{ℕ}
+use mathlib.Core.Bool.{Bool, true, false, _&&_, cond}
+use mathlib.Core.List.{List}
+use lib.Dec.{eqb}
+use lib.Ieee.{Float, neg}
+use lib.ListN.{length}
+use Rattle.alpha.specs.Weight as Weight
+use Rattle.answer.specs.Lent.{Lent, lent, Whole, untouched}
+use Rattle.answer.specs.Solved.{solved}
+use Rattle.answer.specs.declared.Finish.{Finish}
+use Rattle.answer.specs.declared.Finish.the-variants.{Plain, Signed, Scaled}
+use Rattle.answer.specs.declared.Outcome.{Outcome}
+use Rattle.answer.specs.declared.Outcome.the-variants.{Accepted, Refused}
+use Rattle.fits.specs.Load.{loaded}
+use Rattle.fits.specs.Starts.{nothing, evenly, allPositive, costsTo, half, sharedTo, oneClassTo}
+use Rattle.judge.specs.Judge.{generalJudged, cJudged, nuJudged, oneClassJudged}
+use Rattle.judge.specs.Sizes.{sizes}
+use Rattle.judge.specs.declared.Judged.{Judged}
+use Rattle.judge.specs.declared.Judged.the-variants.{Fine, Bad}
+use Rattle.kernel.specs.declared.Kind.{Kind}
+use Rattle.kernel.specs.declared.Kind.the-variants.{TwoClass, OneClass}
+use Rattle.rho.specs.Rho.{one, minusOne}
+use Rattle.solver.specs.declared.Given.{Given}
+use Rattle.state.specs.Lists.{State, state}
+
+abbrev pub givenOf : ℕ → Kind → Float → Bool → Bool → Given
+givenOf n kind eps shrinking nu = record { n = n; side = n; kind = kind; floor = Weight.floor; eps = eps; shrinking = shrinking; nu = nu }
+
+-- ---- the parts that all entries share
+
+abbrev pub scratchOf : Lent → State
+scratchOf d = state (d .floats) (d .numbers) (d .bytes)
+
+-- labels l, ceilings c, start weights a, linear terms p: loaded, then solved
+unfoldable pub fitted : Given → Finish → List ℕ → List ℕ → List Float → List Float → List Float → ℕ → Lent → Whole
+fitted g how m l c a p budget d =
+    let s = loaded (g .n) l c a p (scratchOf d) in
+    solved g how m l c budget (lent (d .crate) (d .home) (s .floats) (s .numbers) (s .labels))
+
+-- refusals 3 to 10
+unfoldable pub decided : Judged → Whole → Lent → Whole
+decided Fine w d = w
+decided (Bad number index) w d = untouched (Refused number index) d
+
+-- refusals 1 and 2
+unfoldable pub entered : ℕ → Whole → Lent → Whole
+entered number w d = cond (eqb number 0) w (untouched (Refused number 0) d)
+
+abbrev pub sizesOf : ℕ → Bool → List ℕ → Lent → ℕ
+sizesOf n inputs m d =
+    sizes n inputs (length m) (length (d .crate)) (length (d .home)) (length (d .floats)) (length (d .numbers)) (length (d .bytes))
+
+-- ---- the entries; what follows the sizes stands by itself
+
+-- labels, ceilings, start alphas and linear term as lent
+unfoldable pub generalSized : ℕ → List ℕ → List ℕ → List Float → List Float → List Float → Bool → Float → Bool → ℕ → Lent → Whole
+generalSized n m l c a p nurule eps shrinking budget d =
+    decided (generalJudged n m l c a p eps budget) (fitted (givenOf n TwoClass eps shrinking nurule) Plain m l c a p budget d) d
+
+unfoldable pub generalOf : ℕ → List ℕ → List ℕ → List Float → List Float → List Float → Bool → Float → Bool → ℕ → Lent → Whole
+generalOf n m l c a p nurule eps shrinking budget d =
+    let inputs = eqb (length l) n && eqb (length c) n && eqb (length a) n && eqb (length p) n in
+    entered (sizesOf n inputs m d) (generalSized n m l c a p nurule eps shrinking budget d) d
+
+-- alpha 0, linear term −1, ceilings by label; signed by label
+unfoldable pub fitCSized : ℕ → List ℕ → List ℕ → Float → Float → Float → Bool → ℕ → Lent → Whole
+fitCSized n m l cpos cneg eps shrinking budget d =
+    decided
+    (cJudged n m l cpos cneg eps budget)
+    (fitted (givenOf n TwoClass eps shrinking false) Signed m l (costsTo cpos cneg l nothing n) nothing (evenly minusOne n) budget d)
+    d
+
+unfoldable pub fitCOf : ℕ → List ℕ → List ℕ → Float → Float → Float → Bool → ℕ → Lent → Whole
+fitCOf n m l cpos cneg eps shrinking budget d =
+    entered (sizesOf n (eqb (length l) n) m d) (fitCSized n m l cpos cneg eps shrinking budget d) d
+
+-- alpha shared out by label, linear term 0, ceilings 1; signed by label and divided by r
+unfoldable pub fitNuSized : ℕ → List ℕ → List ℕ → Float → Float → Bool → ℕ → Lent → Whole
+fitNuSized n m l nu eps shrinking budget d =
+    decided
+    (nuJudged n m l nu eps budget)
+    (fitted (givenOf n TwoClass eps shrinking true) Scaled m l (evenly one n) (sharedTo (half nu n) l nothing n) nothing budget d)
+    d
+
+unfoldable pub fitNuOf : ℕ → List ℕ → List ℕ → Float → Float → Bool → ℕ → Lent → Whole
+fitNuOf n m l nu eps shrinking budget d =
+    entered (sizesOf n (eqb (length l) n) m d) (fitNuSized n m l nu eps shrinking budget d) d
+
+-- no labels: all are positive, and no entry is negated
+unfoldable pub fitOneClassSized : ℕ → List ℕ → Float → Float → Bool → ℕ → Lent → Whole
+fitOneClassSized n m nu eps shrinking budget d =
+    decided
+    (oneClassJudged n m nu eps budget)
+    (fitted (givenOf n OneClass eps shrinking false) Plain m (allPositive n) (evenly one n) (oneClassTo nu n nothing n) nothing budget d)
+    d
+
+unfoldable pub fitOneClassOf : ℕ → List ℕ → Float → Float → Bool → ℕ → Lent → Whole
+fitOneClassOf n m nu eps shrinking budget d = entered (sizesOf n true m d) (fitOneClassSized n m nu eps shrinking budget d) d

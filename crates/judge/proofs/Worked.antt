@@ -1,0 +1,82 @@
+-- The edges of the table of refusals, computed. Assumes nothing.
+use Prim.Native.Nat.{ℕ}
+use mathlib.Core.Bool.{true, false}
+use mathlib.Core.List.{List, _∷_, []}
+use mathlib.Core.Path.{_≡_, refl}
+use lib.Ieee.{Float, binary64, ofBits, neg, lt, le}
+use Rattle.alpha.specs.Weight.{limit, zero}
+use Rattle.judge.specs.declared.Judged.{Judged}
+use Rattle.judge.specs.declared.Judged.the-variants.{Fine, Bad}
+use Rattle.judge.specs.Sizes.{sizes}
+use Rattle.judge.specs.Judge.{first, need, after, inLimit, isCeiling, isStart, labelGood, linearGood, costGood, one, epsGood, nuGood, budgetGood}
+
+-- the floats next above 2^1000 and 1, −0, +∞, and a NaN
+abbrev over : Float
+over = ofBits binary64 0x7e70_0000_0000_0001
+
+abbrev overOne : Float
+overOne = ofBits binary64 0x3ff0_0000_0000_0001
+
+abbrev minusZero : Float
+minusZero = ofBits binary64 0x8000_0000_0000_0000
+
+abbrev infinity : Float
+infinity = ofBits binary64 0x7ff0_0000_0000_0000
+
+abbrev noNumber : Float
+noNumber = ofBits binary64 0x7ff8_0000_0000_0001
+
+-- 1 and 2: none, 512 and 513 samples, and one place too few or too many
+pub counts : (sizes 0 true 0 0 0 0 0 0 ≡ 1) × (sizes 512 true 2097152 512 512 3584 1024 512 ≡ 0) × (sizes 513 true 2105352 513 513 3591 1026 513 ≡ 1)
+unfolding sizes
+counts = (refl, refl, refl)
+
+pub rooms : (sizes 2 true 32 2 2 14 4 2 ≡ 0) × (sizes 2 false 32 2 2 14 4 2 ≡ 2) × (sizes 2 true 33 2 2 14 4 2 ≡ 2) × (sizes 2 true 32 1 2 14 4 2 ≡ 2)
+    × (sizes 2 true 32 2 1 14 4 2 ≡ 2) × (sizes 2 true 32 2 2 13 4 2 ≡ 2) × (sizes 2 true 32 2 2 14 3 2 ≡ 2) × (sizes 2 true 32 2 2 14 4 1 ≡ 2)
+unfolding sizes
+rooms = (refl, refl, refl, refl, refl, refl, refl, refl)
+
+-- 3
+pub entries : (inLimit limit ≡ true) × (inLimit (neg limit) ≡ true) × (inLimit over ≡ false) × (inLimit (neg over) ≡ false) × (inLimit infinity ≡ false) × (inLimit noNumber ≡ false)
+unfolding ofBits neg le
+entries = (refl, refl, refl, refl, refl, refl)
+
+-- 4, with its index
+pub labels : (first 4 (labelGood (0 ∷ 1 ∷ [])) 2 0 ≡ Fine) × (first 4 (labelGood (1 ∷ 2 ∷ 3 ∷ [])) 3 0 ≡ Bad 4 1)
+unfolding first labelGood
+labels = (refl, refl)
+
+-- 5, in the C entry with its index
+pub ceilings : (isCeiling limit ≡ true) × (isCeiling over ≡ false) × (isCeiling zero ≡ false) × (isCeiling minusZero ≡ false) × (isCeiling noNumber ≡ false)
+unfolding ofBits lt le
+ceilings = (refl, refl, refl, refl, refl)
+
+pub costs : (first 5 (costGood zero zero) 2 0 ≡ Bad 5 0) × (first 5 (costGood one zero) 2 0 ≡ Bad 5 1) × (first 5 (costGood one limit) 2 0 ≡ Fine)
+unfolding first costGood ofBits lt le
+costs = (refl, refl, refl)
+
+-- 6
+pub starts : (isStart minusZero one ≡ true) × (isStart one one ≡ true) × (isStart overOne one ≡ false) × (isStart (neg one) one ≡ false) × (isStart noNumber one ≡ false)
+unfolding ofBits neg le
+starts = (refl, refl, refl, refl, refl)
+
+-- 7
+pub linear : (first 7 (linearGood (over ∷ neg over ∷ [])) 2 0 ≡ Fine) × (first 7 (linearGood (zero ∷ neg infinity ∷ [])) 2 0 ≡ Bad 7 1) × (first 7 (linearGood (noNumber ∷ [])) 1 0 ≡ Bad 7 0)
+unfolding first linearGood ofBits neg
+linear = (refl, refl, refl)
+
+-- 8
+pub epsilons : (epsGood zero ≡ true) × (epsGood over ≡ true) × (epsGood minusZero ≡ false) × (epsGood (neg one) ≡ false) × (epsGood infinity ≡ false) × (epsGood noNumber ≡ false)
+unfolding epsGood ofBits neg
+epsilons = (refl, refl, refl, refl, refl, refl)
+
+-- 9
+pub nus : (nuGood one ≡ true) × (nuGood overOne ≡ false) × (nuGood zero ≡ false) × (nuGood noNumber ≡ false)
+unfolding nuGood ofBits lt le
+nus = (refl, refl, refl, refl)
+
+-- 10, and the lower of two numbers
+pub budgets : (budgetGood 0 ≡ false) × (budgetGood 1 ≡ true) × (budgetGood 10000000 ≡ true) × (budgetGood 10000001 ≡ false)
+    × (after (need 8 false) (need 10 false) ≡ Bad 8 0) × (after (need 8 true) (need 10 false) ≡ Bad 10 0)
+unfolding budgetGood after
+budgets = (refl, refl, refl, refl, refl, refl)
