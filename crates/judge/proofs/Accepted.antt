@@ -1,28 +1,59 @@
 -- What an entry's list of judgements says where it is fine. Assumes nothing.
-use Prim.Native.Nat.{ℕ, _+_, _*_, _≤_, _<_}
-use mathlib.Core.Bool.{Bool, true, false, not}
+use Prim.Native.Nat.{ℕ, _*_, _≤_, _<_}
+use mathlib.Core.Bool.{Bool, true, not, _&&_}
 use mathlib.Core.List.{List}
-use mathlib.Core.Path.{_≡_, refl, sym, subst}
+use mathlib.Core.Path.{_≡_, sym, subst}
 use native.Mathlib.Omega.{arith}
-use lib.Dec.{T}
-use lib.ListN.{length}
-use lib.Ieee.{Float, binary64, nanBits, neg, le, isNan}
+use borrow.Author.Tests.{ltb-true, leb-true}
+use lib.Dec.{T, ltb, leb}
+use lib.ListN.{length, getD}
+use lib.Ieee.{Float, nan, binary64, nanBits, neg, lt, le}
 use lib.Ieee.Bits.{nanBits-is}
-use Rattle.alpha.specs.Weight.{limit}
+use Rattle.alpha.specs.Weight.{zero, limit}
 use Rattle.kernel.specs.Matrix.{Matrix}
 use Rattle.rounding.proofs.Order.{holds, le-real}
 use Rattle.wire.specs.Wire.{digits, floatAt}
-use Rattle.judge.specs.declared.Judged.{Judged}
-use Rattle.judge.specs.declared.Judged.the-variants.{Fine, Bad}
-use Rattle.judge.specs.Judge.{first, need, after, isCeiling, entryGood, labelGood, ceilingGood, costGood, alphaGood, linearGood, epsGood, nuGood, budgetGood, samplesJudged, generalJudged, cJudged, nuJudged, oneClassJudged}
+use Rattle.judge.specs.declared.Judged.the-variants.{Fine}
+use Rattle.judge.specs.Judge.{first, need, after, isCeiling, entryGood, labelGood, ceilingGood, costGood, alphaGood, linearGood, epsGood, nuGood, one, budgetGood, samplesJudged, generalJudged, cJudged, nuJudged, oneClassJudged}
 use Rattle.judge.proofs.First.{first-fine, need-fine, after-fine, both}
+
+-- ---- what a good place says
+
+two : (a b : Bool) → (a && b) ≡ true → T a × T b
+two a b h = let p = both a b h in (holds a .1 (p .0), holds b .1 (p .1))
+
+pub entry-within : (m : List ℕ) (k : ℕ) → entryGood m k ≡ true → T (le (neg limit) (floatAt m (8 * k))) × T (le (floatAt m (8 * k)) limit)
+unfolding entryGood
+entry-within m k h = two (le (neg limit) (floatAt m (8 * k))) (le (floatAt m (8 * k)) limit) h
+
+pub label-within : (l : List ℕ) (k : ℕ) → labelGood l k ≡ true → getD l k 0 ≤ 1
+unfolding labelGood
+label-within l k h = leb-true (getD l k 0) 1 h
+
+pub ceiling-within : (c : List Float) (k : ℕ) → ceilingGood c k ≡ true → T (lt zero (getD c k nan)) × T (le (getD c k nan) limit)
+unfolding ceilingGood
+ceiling-within c k h = two (lt zero (getD c k nan)) (le (getD c k nan) limit) h
+
+pub cost-within : (c : Float) → isCeiling c ≡ true → T (lt zero c) × T (le c limit)
+cost-within c h = two (lt zero c) (le c limit) h
+
+pub alpha-within : (a c : List Float) (k : ℕ) → alphaGood a c k ≡ true → T (le zero (getD a k nan)) × T (le (getD a k nan) (getD c k nan))
+unfolding alphaGood
+alpha-within a c k h = two (le zero (getD a k nan)) (le (getD a k nan) (getD c k nan)) h
+
+pub nu-within : (nu : Float) → nuGood nu ≡ true → T (lt zero nu) × T (le nu one)
+unfolding nuGood
+nu-within nu h = two (lt zero nu) (le nu one) h
+
+pub budget-within : (budget : ℕ) → budgetGood budget ≡ true → (0 < budget) × (budget ≤ 10000000)
+unfolding budgetGood
+budget-within budget h = let p = both (ltb 0 budget) (leb budget 10000000) h in (ltb-true 0 budget (p .0), leb-true budget 10000000 (p .1))
 
 -- a good entry is no NaN's pattern
 entry-number : (m : List ℕ) (k : ℕ) → entryGood m k ≡ true → T (not (nanBits binary64 (digits m (8 * k) 8)))
-unfolding entryGood
 entry-number m k h =
-    let p = both (le (neg limit) (floatAt m (8 * k))) (le (floatAt m (8 * k)) limit) h in
-    subst (λ (b : Bool). T (not b)) (sym (nanBits-is binary64 (digits m (8 * k) 8))) (le-real (neg limit) (floatAt m (8 * k)) (holds (le (neg limit) (floatAt m (8 * k))) .1 (p .0)) .1)
+    subst (λ (b : Bool). T (not b)) (sym (nanBits-is binary64 (digits m (8 * k) 8)))
+    (le-real (neg limit) (floatAt m (8 * k)) (entry-within m k h .0) .1)
 
 pub matrix-fine : (n : ℕ) (m : List ℕ) → n ≤ 512 → 8 * (n * n) ≤ length m → first 3 (entryGood m) (n * n) 0 ≡ Fine → Matrix n m
 matrix-fine n m a b h = record { small = a; long = b; number = λ k l. entry-number m k (first-fine 3 (entryGood m) (n * n) 0 h k (omega arith) (omega arith)) }

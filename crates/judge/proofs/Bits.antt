@@ -1,14 +1,14 @@
 -- What the patterns' order says of floats: a small one is a small number, and those below the infinity's are what refusal 8 lets through. Assumes nothing.
 use Prim.Native.Nat.{ℕ, zero, suc, _+_, _-_, _*_, _/_, _%_, _^_, _≤_, _<_}
-use mathlib.Core.Bool.{Bool, true, false, not, _&&_, cond}
-use mathlib.Core.Path.{_≡_, refl, sym, ap, subst, _∙_}
+use mathlib.Core.Bool.{Bool, true, false, _&&_, cond}
+use mathlib.Core.Path.{_≡_, refl, ap, _∙_}
 use native.Mathlib.Nat.{le-refl, le-trans, mul-le-mul, mul-div-cancel}
 use native.Mathlib.Omega.{arith}
 use borrow.Author.Tests.{lt-ltb, le-ltb}
 use lib.Dec.{T, ltb, leb, eqb, lit≤, eqb→eq, not-T}
-use lib.IntN.{ℤ, pos}
-use lib.Pow.{pow-add, pow-mono, pow-pos}
-use lib.Ieee.{Float, nan, inf, fin, Format, binary32, binary64, prec, emax, low, up, down, hid, ones, top, size, odd, neg, lt, le, fits, isNan, ofFields, ofBits, toBits}
+use lib.IntN.{pos}
+use lib.Pow.{pow-mono, pow-pos}
+use lib.Ieee.{Float, nan, inf, fin, Format, binary32, binary64, prec, emax, low, down, hid, ones, top, size, odd, neg, lt, le, fits, isNan, ofFields, ofBits, toBits}
 use lib.Ieee.Bits.{cond-no, ofBits-fits}
 use lib.Ieee.Digits.{Equals, odd-val, size-le}
 use lib.Ieee.Fits.{down-pos, kept-lt}

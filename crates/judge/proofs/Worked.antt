@@ -1,11 +1,9 @@
 -- The edges of the table of refusals, computed. Assumes nothing.
-use Prim.Native.Nat.{ℕ}
 use mathlib.Core.Bool.{true, false}
-use mathlib.Core.List.{List, _∷_, []}
+use mathlib.Core.List.{_∷_, []}
 use mathlib.Core.Path.{_≡_, refl}
 use lib.Ieee.{Float, binary64, ofBits, neg, lt, le}
 use Rattle.alpha.specs.Weight.{limit, zero}
-use Rattle.judge.specs.declared.Judged.{Judged}
 use Rattle.judge.specs.declared.Judged.the-variants.{Fine, Bad}
 use Rattle.judge.specs.Sizes.{sizes}
 use Rattle.judge.specs.Judge.{first, need, after, inLimit, isCeiling, isStart, labelGood, linearGood, costGood, one, epsGood, nuGood, budgetGood}

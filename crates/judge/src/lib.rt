@@ -1,7 +1,7 @@
 // Refusals 1 to 10: what is lent and given is judged before anything is written.
-ghost use mathlib.Core.Bool.{true, _&&_};
+ghost use mathlib.Core.Bool.{true};
 ghost use mathlib.Core.Path.{_≡_};
-ghost use Prim.Native.Nat.{ℕ, _+_, _*_, _≤_, _<_};
+ghost use Prim.Native.Nat.{ℕ, _+_, _*_, _/_, _≤_, _<_};
 ghost use lib.ListN.{length};
 ghost use Rattle.judge.specs.Sizes.{roomGood, sizes};
 ghost use Rattle.judge.specs.Judge.{first, need, after, isBad, isCeiling, inLimit, entryGood, labelGood, ceilingGood, costGood, alphaGood, linearGood, epsGood, nuGood, budgetGood, generalJudged, cJudged, nuJudged, oneClassJudged};
@@ -76,14 +76,16 @@ fn eight_small(m: &[u8], k: usize) -> bool
         & surely_small(m, k + 7)
 }
 
-// The first 8·q entries.
-fn eights_small(m: &[u8], q: usize) -> bool
-    requires { ⌜ (8 * (8 * q) ≤ length (now m)) × (8 * q ≤ 262144) ⌝ }
-    ensures { λ r. ⌜ (r ≡ true → (j : ℕ) → j < 8 * q → entryGood (now (m .entry)) j ≡ true) ⌝ }
+// As many eights of entries as there are among the first e. With a step of 8 the compiler packs the eight bytes into one comparison.
+fn eights_small(m: &[u8], e: usize) -> bool
+    requires { ⌜ (8 * e ≤ length (now m)) × (e ≤ 262144) ⌝ }
+    ensures { λ r. ⌜ (r ≡ true → (j : ℕ) → j < 8 * (e / 8) → entryGood (now (m .entry)) j ≡ true) ⌝ }
 {
     let mut small = true;
-    for b in 0..q {
-        small = small & eight_small(m, 8 * b);
+    let mut k: usize = 0;
+    while k + 8 <= e {
+        small = small & eight_small(m, k);
+        k += 8;
     }
     small
 }
@@ -93,9 +95,8 @@ fn all_small(m: &[u8], e: usize) -> bool
     requires { ⌜ (8 * e ≤ length (now m)) × (e ≤ 262144) ⌝ }
     ensures { λ r. ⌜ (r ≡ true → (j : ℕ) → j < e → entryGood (now (m .entry)) j ≡ true) ⌝ }
 {
-    let q = e / 8;
-    let mut small = eights_small(m, q);
-    let mut k = 8 * q;
+    let mut small = eights_small(m, e);
+    let mut k = 8 * (e / 8);
     while k < e {
         small = small & surely_small(m, k);
         k += 1;

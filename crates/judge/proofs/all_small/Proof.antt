@@ -9,10 +9,10 @@ use Rattle.judge.proofs.all_small.Statement.{statement}
 use Rattle.judge.proofs.all_small.Tie as tie
 
 abbrev Inv-loop : tie.InvT-loop
-Inv-loop m e q small₀ k₀ small k = (k ≤ e) × (small ≡ true → Each (entryGood m) 0 k)
+Inv-loop m e small₀ k₀ small k = (k ≤ e) × (small ≡ true → Each (entryGood m) 0 k)
 
 abbrev μ-loop : tie.MeasureT-loop
-μ-loop m e q small₀ k₀ small k = e - k
+μ-loop m e small₀ k₀ small k = e - k
 
 loop-holds : tie.Need-loop-holds Inv-loop μ-loop
 loop-holds c = (search needs, λ t j l u. c .eights-small .ensures t j u)

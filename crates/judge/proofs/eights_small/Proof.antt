@@ -1,4 +1,4 @@
-use Prim.Native.Nat.{_+_, _*_, _≤_, _-_}
+use Prim.Native.Nat.{_%_, _≤_, _-_}
 use mathlib.Core.Bool.{true}
 use mathlib.Core.Path.{_≡_}
 use native.Mathlib.Omega.{arith}
@@ -9,19 +9,21 @@ use Rattle.judge.proofs.eights_small.Statement.{statement}
 use Rattle.judge.proofs.eights_small.Tie as tie
 
 abbrev Inv-loop : tie.InvT-loop
-Inv-loop m q small₀ b₀ small b = (b ≤ q) × (small ≡ true → Each (entryGood m) 0 (8 * b))
+Inv-loop m e small₀ k₀ small k = (k ≤ e) × (k % 8 ≡ 0) × (small ≡ true → Each (entryGood m) 0 k)
 
 abbrev μ-loop : tie.MeasureT-loop
-μ-loop m q small₀ b₀ small b = q - b
+μ-loop m e small₀ k₀ small k = e - k
 
 loop-holds : tie.Need-loop-holds Inv-loop μ-loop
-loop-holds c = (search needs, λ e. none (entryGood (c .before .args .m .now)))
+loop-holds c = (search needs, search needs, λ t. none (entryGood (c .before .args .m .now)))
 
 loop-again : tie.Need-loop-again Inv-loop μ-loop
-loop-again c = (search needs, λ e j l u. more (entryGood (c .before .before .before .before .args .m .now)) 0 (8 * c .before .before .loop .b) (8 * c .before .before .loop .b + 8) _ _ (c .before .before .loop .inv .1) (c .eight-small .ensures) e j l (omega arith))
+loop-again c =
+    let v = c .before .before .loop .inv in
+    (search needs, omega (arith, v .1), more (entryGood (c .before .before .before .before .args .m .now)) 0 (c .before .before .loop .k) _ _ _ (v .2) (c .eight-small .ensures))
 
 returns : tie.Need-returns Inv-loop μ-loop
-returns c = λ e j u. c .before .loop .inv .1 e j (omega arith) (omega arith)
+returns c = let v = c .before .loop .inv in λ t j u. v .2 t j (omega arith) (omega (arith, v .1))
 
 pub eights-small-spec : {M : Type 1} → statement M
 eights-small-spec =

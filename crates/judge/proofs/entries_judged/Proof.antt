@@ -1,8 +1,8 @@
 use Prim.Native.Nat.{_≤_, _-_}
-use mathlib.Core.Path.{_≡_, sym, ap, _∙_}
+use mathlib.Core.Path.{_≡_, sym, _∙_}
 use native.Mathlib.Nat.{sub-zero}
 use native.Mathlib.Omega.{arith}
-use Rattle.judge.specs.Judge.{first, inLimit, entryGood}
+use Rattle.judge.specs.Judge.{first, entryGood}
 use Rattle.judge.proofs.First.{on, stop, done}
 use borrow.Author.Needs.{needs}
 use Rattle.judge.proofs.entries_judged.Statement.{statement}

@@ -2,7 +2,6 @@ use borrow.Author.Tests.{leb-true}
 use lib.Dec.{ltb, leb}
 use Rattle.judge.specs.Sizes.{sizes}
 use Rattle.judge.proofs.First.{both}
-use borrow.Author.Needs.{needs}
 use Rattle.judge.proofs.sized.Statement.{statement}
 use Rattle.judge.proofs.sized.Tie as tie
 
