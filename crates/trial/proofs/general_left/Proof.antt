@@ -1,0 +1,37 @@
+use mathlib.Core.Path.{sym, _∙_}
+use denote.Ref.{now}
+use borrow.Author.Tests.{eq-eqb, ne-eqb}
+use lib.ListN.{length}
+use Rattle.classification.proofs.Laws.{four-long}
+use Rattle.judge.proofs.Lengths.{inputs-of, room-of}
+use Rattle.trial.specs.Trial.{generalLeft}
+use borrow.Author.Needs.{needs}
+use Rattle.trial.proofs.general_left.Statement.{statement}
+use Rattle.trial.proofs.general_left.Tie as tie
+
+general-sized-requires : tie.Need-general-sized-requires
+general-sized-requires c κs =
+    let s = c .before .before .before .before .before .before .before .before .before .before .before .before .before in
+    let h = sym (c .before .before .before .before .sized .ensures) ∙ c .before .before .before .if1 .taken in
+    let t = four-long (s .args .n) (length (now (s .args .l))) (length (now (s .args .c))) (length (now (s .args .a))) (length (now (s .args .p))) (inputs-of _ _ _ _ _ _ _ _ h) in
+    (room-of _ _ _ _ _ _ _ _ h, t .0, t .1, t .2, t .3)
+
+returns : tie.Need-returns
+unfolding generalLeft
+returns c = rw (← c .before .before .before .before .before .before .before .before .before .before .before .sized .ensures, eq-eqb _ _ (c .before .before .before .before .before .before .before .before .before .before .if1 .taken)) (c .before .before .before .before .before .before .general-sized .ensures)
+
+returns-2 : tie.Need-returns-2
+unfolding generalLeft
+returns-2 c = rw (← c .before .sized .ensures, ne-eqb _ _ (c .if1 .left))
+
+pub general-left-spec : {M : Type 1} → statement M
+general-left-spec =
+    tie.close
+    (tie.spec
+    (λ c κs. search needs)
+    general-sized-requires
+    (λ c. search needs)
+    (λ c. search needs)
+    (λ c. search needs)
+    returns
+    returns-2)
