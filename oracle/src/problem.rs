@@ -1,7 +1,7 @@
 //! What a caller lends and asks.
 
 /// The largest magnitude of a kernel entry or a ceiling, 2^1000.
-pub const LIMIT: f64 = f64::from_bits(LIMIT_BITS);
+pub const LIMIT: f64 = 1.0715086071862673e301;
 pub const LIMIT_BITS: u64 = 0x7e70_0000_0000_0000;
 
 /// The largest n that is accepted.

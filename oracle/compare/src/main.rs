@@ -116,7 +116,7 @@ fn differs(p: &Problem, answer: &Answer, ran: &Ran) -> Option<&'static str> {
         (!same(&ran.floats[4 * n..5 * n], &a.linear), "linear term"),
         (canonical(ran.out[0]) != canonical(a.rho), "rho"),
         (
-            a.r.is_some_and(|r| canonical(ran.out[1]) != canonical(r)),
+            a.r.map_or(false, |r| canonical(ran.out[1]) != canonical(r)),
             "r",
         ),
         (canonical(ran.out[2]) != canonical(a.obj), "obj"),
@@ -134,9 +134,12 @@ fn main() -> ExitCode {
         .skip(1)
         .filter_map(|w| w.parse().ok())
         .collect();
-    let [seed, count] = words[..] else {
-        eprintln!("compare SEED COUNT");
-        return ExitCode::from(2);
+    let (seed, count) = match words[..] {
+        [seed, count] => (seed, count),
+        _ => {
+            eprintln!("compare SEED COUNT");
+            return ExitCode::from(2);
+        }
     };
     let (mut runs, mut passes, mut parted, mut zero_pairs, mut nu) = (0u64, 0u64, 0u64, 0u64, 0u64);
     let (mut shrunk, mut refused, mut rebuilt, mut turned) = (0u64, 0u64, 0u64, 0u64);
@@ -159,7 +162,7 @@ fn main() -> ExitCode {
             shrunk += (answer.events.walks > 0) as u64;
             rebuilt += (answer.events.first_branch + answer.events.second_branch > 0) as u64;
             refused += ran.refused as u64;
-            turned += answer.accepted().is_some_and(|a| !is_own_inverse(&a.order)) as u64;
+            turned += answer.accepted().map_or(false, |a| !is_own_inverse(&a.order)) as u64;
             if answer.zero_pair {
                 zero_pairs += 1;
                 continue;
