@@ -149,3 +149,15 @@ impl Problem {
         self.matrix[8 * k..8 * k + 8].copy_from_slice(&pattern.to_le_bytes());
     }
 }
+
+#[cfg(test)]
+mod tests {
+    use super::*;
+
+    #[test]
+    fn the_limit_is_written_as_its_pattern() {
+        assert_eq!(LIMIT.to_bits(), LIMIT_BITS);
+        assert_eq!(crate::draw::PAST_LIMIT.to_bits(), LIMIT_BITS + 1);
+        assert_eq!(crate::draw::PAST_ONE.to_bits(), 1.0_f64.to_bits() + 1);
+    }
+}
