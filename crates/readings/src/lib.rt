@@ -28,14 +28,14 @@ pub fn shown<'a>(reading: &'a [f64], home: &'a [f64], which: Reading, n: usize) 
     }
 }
 
-// The crate's reading: place k of the result gets the weight at position u[k].
+// The crate's reading: place i of the result gets the weight at position u[i].
 pub fn read_crate(res: &mut [f64], f: &[f64], u: &[u64], n: usize)
     requires { ⌜ (n ≤ 512) × (n ≤ length (now res)) × (7 * n ≤ length (now f)) × (Within n (now u)) ⌝ }
     ensures { λ _. ⌜ now (res .exit) ≡ crateReading n (now (u .entry)) (weightIn n (now (f .entry))) (now (res .entry)) ⌝ }
 {
-    for k in 0..n {
-        let at = u[k] as usize;
-        res[k] = f[2 * n + at];
+    for i in 0..n {
+        let at = u[i] as usize;
+        res[i] = f[2 * n + at];
     }
 }
 

@@ -1,4 +1,3 @@
 pub mod Within
 pub mod Moves
 pub mod Kept
-pub mod Worked

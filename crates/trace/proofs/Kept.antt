@@ -37,14 +37,17 @@ fallen-most drops s i (suc a) = go (ltb i (suc a) && drops s (suc a)) (fallen-mo
     go true h = omega arith
     go false h = omega arith
 
+-- kept, with a count of a at the most
+pub record Walks (P : State → Type 0) (a : ℕ) (w : Walking State) : Type 0 where
+  pub kept : P (w .state)
+  pub most : w .active ≤ a
+
 module _ (n : ℕ) (P : State → Type 0) (on-moved : (s : State) (i j : ℕ) → i < n → j < n → P s → P (moved n s i j))
     (drops : State → ℕ → Bool) (a : ℕ) (h : a ≤ n) where
-  -- kept, with a count of a at the most
-  pub record Walks (w : Walking State) : Type 0 where
-    pub kept : P (w .state)
-    pub most : w .active ≤ a
+  abbrev W : Walking State → Type 0
+  W = Walks P a
 
-  walks-exchanged : (s : State) (i c : ℕ) → P s → i < n → c < n → c ≤ a → Walks (exchanged (moved n) s i c)
+  walks-exchanged : (s : State) (i c : ℕ) → P s → i < n → c < n → c ≤ a → W (exchanged (moved n) s i c)
   unfolding exchanged
   walks-exchanged s i c r l g k = record { kept = go (ltb i c); most = k }
     where
@@ -52,28 +55,33 @@ module _ (n : ℕ) (P : State → Type 0) (on-moved : (s : State) (i j : ℕ) �
       go true = on-moved s i c l g r
       go false = r
 
-  walks-dropped : (s : State) (i c : ℕ) → P s → i < n → c ≤ a → Walks (dropped drops (moved n) s i c)
+  walks-dropped : (s : State) (i c : ℕ) → P s → i < n → c ≤ a → W (dropped drops (moved n) s i c)
   unfolding dropped
   walks-dropped s i zero r l k = record { kept = r; most = omega arith }
   walks-dropped s i (suc c) r l k =
       let m = fallen-most drops s i c in
       walks-exchanged s i (fallen drops s i c) r l (omega arith) (omega arith)
 
-  walks-visited : (i : ℕ) (w : Walking State) → i < n → Walks w → Walks (visited drops (moved n) i w)
+  walks-visited : (i : ℕ) (w : Walking State) → i < n → W w → W (visited drops (moved n) i w)
   unfolding visited
   walks-visited i w l r = go (w .refused) (drops (w .state) i)
     where
-      go : (b c : Bool) → Walks (cond b w (cond c (dropped drops (moved n) (w .state) i (w .active)) w))
+      go : (b c : Bool) → W (cond b w (cond c (dropped drops (moved n) (w .state) i (w .active)) w))
       go true c = r
       go false true = walks-dropped (w .state) i (w .active) (r .kept) l (r .most)
       go false false = r
 
-  pub walks : (s : State) (m : ℕ) → m ≤ n → P s → Walks (walked drops (moved n) a s m)
+  pub walks : (s : State) (m : ℕ) → m ≤ n → P s → W (walked drops (moved n) a s m)
   unfolding walked
   walks s zero l r = record { kept = r; most = omega arith }
   walks s (suc i) l r = walks-visited i (walked drops (moved n) a s i) (omega arith) (walks s i (omega arith) r)
 
 -- ---- a pass
+
+-- the lists kept, with an active count of n at the most
+pub record Keeps (g : Given) (P : State → Type 0) (w : Full) : Type 0 where
+  pub kept : P (w .state)
+  pub active : w .run .active ≤ g .n
 
 module _ (g : Given) (m : List ℕ) where
   -- the two of a pair are two
@@ -90,43 +98,42 @@ module _ (g : Given) (m : List ℕ) where
   module _ (P : State → Type 0)
       (on-rebuilt : (s : State) (a : ℕ) → a ≤ g .n → P s → P (over s (reconstructed (problemOf g m) a s)))
       (on-moved : (s : State) (i j : ℕ) → i < g .n → j < g .n → P s → P (moved (g .n) s i j)) where
-    pub record Keeps (w : Full) : Type 0 where
-      pub kept : P (w .state)
-      pub active : w .run .active ≤ g .n
+    abbrev K : Full → Type 0
+    K = Keeps g P
 
-    keeps-either : (x : Bool) (v w : Full) → Keeps v → Keeps w → Keeps (cond x v w)
+    keeps-either : (x : Bool) (v w : Full) → K v → K w → K (cond x v w)
     keeps-either true v w a b = a
     keeps-either false v w a b = b
 
-    pub rebuilt-keeps : (w : Full) → Keeps w → Keeps (rebuilt g m w)
+    pub rebuilt-keeps : (w : Full) → K w → K (rebuilt g m w)
     unfolding rebuilt
     rebuilt-keeps w k = record { kept = on-rebuilt (w .state) (w .run .active) (k .active) (k .kept); active = k .active }
 
-    restored-keeps : (level : Float) (w : Full) → Keeps w → Keeps (restored g m level w)
+    restored-keeps : (level : Float) (w : Full) → K w → K (restored g m level w)
     unfolding restored
     restored-keeps level w k =
         keeps-either (not (w .run .unshrink) && le level (mul binary64 (g .eps) ten)) (withRun (rebuilt g m w) (reopened (w .run) (g .n))) w
         (record { kept = rebuilt-keeps w k .kept; active = omega arith }) k
 
-    walked-keeps : (l : Limits) (w : Full) → Keeps w → Keeps (walkedFrom g m l w)
+    walked-keeps : (l : Limits) (w : Full) → K w → K (walkedFrom g m l w)
     unfolding walkedFrom
     walked-keeps l w k =
         let r = walks (g .n) P on-moved (dropsAt (g .n) l) (w .run .active) (k .active) (w .state) (w .run .active) (k .active) (k .kept) in
         record { kept = r .kept; active = omega (arith, r .most, k .active) }
 
-    pub shrunk-keeps : (w : Full) → Keeps w → Keeps (shrunk g m w)
+    pub shrunk-keeps : (w : Full) → K w → K (shrunk g m w)
     unfolding shrunk
     shrunk-keeps w k = let t = topsOf g m w in walked-keeps (t .limits) (restored g m (t .level) w) (restored-keeps (t .level) w k)
 
-    pub counted-keeps : (w : Full) → Keeps w → Keeps (countedDown g m w)
+    pub counted-keeps : (w : Full) → K w → K (countedDown g m w)
     unfolding countedDown
     counted-keeps w k =
         let v = withRun w (counterAt (w .run) (period (g .n))) in
-        let r : Keeps v = record { kept = k .kept; active = k .active } in
+        let r : K v = record { kept = k .kept; active = k .active } in
         keeps-either (ltb 0 (w .run .counter - 1)) (withRun w (counterAt (w .run) (w .run .counter - 1))) (cond (g .shrinking) (shrunk g m v) v)
         (record { kept = k .kept; active = k .active }) (keeps-either (g .shrinking) (shrunk g m v) v (shrunk-keeps v r) r)
 
-    pub closed-keeps : (budget : ℕ) (w : Full) → Keeps w → Keeps (closed g m budget w)
+    pub closed-keeps : (budget : ℕ) (w : Full) → K w → K (closed g m budget w)
     unfolding closed
     closed-keeps budget w k =
         keeps-either (eqb (w .run .iterations) budget && ltb (w .run .active) (g .n)) (withRun (rebuilt g m w) (activeAt (w .run) (g .n))) w
@@ -134,42 +141,42 @@ module _ (g : Given) (m : List ℕ) where
 
     module _ (b : List Float)
         (on-updated : (s : State) (i j a : ℕ) → i < a → j < a → a ≤ g .n → (i ≡ j → ⊥) → P s → P (updatedState (problemOf g m) b (g .floor) s i j a)) where
-      stepped-keeps : (w : Full) (i j : ℕ) → i < w .run .active → j < w .run .active → (i ≡ j → ⊥) → Keeps w → Keeps (stepped g m b w i j)
+      stepped-keeps : (w : Full) (i j : ℕ) → i < w .run .active → j < w .run .active → (i ≡ j → ⊥) → K w → K (stepped g m b w i j)
       unfolding stepped
       stepped-keeps w i j a c d k = record { kept = on-updated (w .state) i j (w .run .active) a c (k .active) d (k .kept); active = k .active }
 
-      looked-keeps : (w : Full) (c : Choice) → chosen g m w ≡ c → Keeps w → Keeps (looked g m b w c)
+      looked-keeps : (w : Full) (c : Choice) → chosen g m w ≡ c → K w → K (looked g m b w c)
       unfolding looked
       looked-keeps w (Pair i j) e k =
           let l = chosen-below g m w i j e in
           stepped-keeps (withRun w (counterAt (w .run) 1)) i j (l .0) (l .1) (chosen-apart w i j e) (record { kept = k .kept; active = k .active })
       looked-keeps w Optimal e k = record { kept = k .kept; active = k .active }
 
-      worked-keeps : (w : Full) (c : Choice) → chosen g m w ≡ c → Keeps w → Keeps (workedBy g m b w c)
+      worked-keeps : (w : Full) (c : Choice) → chosen g m w ≡ c → K w → K (workedBy g m b w c)
       unfolding workedBy
       worked-keeps w (Pair i j) e k = let l = chosen-below g m w i j e in stepped-keeps w i j (l .0) (l .1) (chosen-apart w i j e) k
       worked-keeps w Optimal e k = looked-keeps (rebuilt g m w) (chosen g m (rebuilt g m w)) refl (rebuilt-keeps w k)
 
-      onward-keeps : (x : Bool) (w : Full) → Keeps w → Keeps (onward g m b x w)
+      onward-keeps : (x : Bool) (w : Full) → K w → K (onward g m b x w)
       unfolding onward
       onward-keeps true w k = worked-keeps w (chosen g m w) refl k
       onward-keeps false w k = k
 
-      pub passed-keeps : (w : Full) → Keeps w → Keeps (passed g m b w)
+      pub passed-keeps : (w : Full) → K w → K (passed g m b w)
       unfolding passed
       passed-keeps w k = let v = countedDown g m w in onward-keeps (goes (v .run .status)) v (counted-keeps w k)
 
-      next-keeps : (x : Bool) (w : Full) → Keeps w → Keeps (next g m b x w)
+      next-keeps : (x : Bool) (w : Full) → K w → K (next g m b x w)
       unfolding next
       next-keeps true w k = passed-keeps w k
       next-keeps false w k = k
 
-      pub runs-keeps : (w : Full) (t : ℕ) → Keeps w → Keeps (runs g m b w t)
+      pub runs-keeps : (w : Full) (t : ℕ) → K w → K (runs g m b w t)
       unfolding runs
       runs-keeps w zero k = k
       runs-keeps w (suc t) k = let v = runs g m b w t in next-keeps (goes (v .run .status)) v (runs-keeps w t k)
 
-      pub trained-keeps : (budget : ℕ) (s : State) → P (over s (started (problemOf g m) b s)) → Keeps (trained g m b budget s)
+      pub trained-keeps : (budget : ℕ) (s : State) → P (over s (started (problemOf g m) b s)) → K (trained g m b budget s)
       unfolding trained
       trained-keeps budget s k =
           let w = full (readyOf (g .n)) (started (problemOf g m) b s) (s .numbers) (s .labels) in

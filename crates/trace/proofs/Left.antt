@@ -1,8 +1,8 @@
 -- What a step records is what the update left, at active positions. Assumes nothing.
-use Prim.Native.Nat.{ℕ, zero, suc, _+_, _*_, _≤_, _<_}
+use Prim.Native.Nat.{ℕ, zero, suc, _*_, _≤_, _<_}
 use mathlib.Core.Bool.{Bool, true, false}
 use mathlib.Core.List.{List, [], _∷_, _++_, append-nil}
-use mathlib.Core.Logic.{_⊎_, inl, inr}
+use mathlib.Core.Logic.{inl, inr}
 use mathlib.Core.Path.{_≡_, refl, sym, ap, _∙_}
 use native.Mathlib.Nat.{eq-or-lt-of-le}
 use native.Mathlib.Omega.{arith}
@@ -23,10 +23,9 @@ use Rattle.state.proofs.Moves.{length-fields}
 use Rattle.update.specs.Update.{over, pairAt}
 use Rattle.update.proofs.Left.{alpha-i, alpha-j}
 use Rattle.trace.specs.Trace.{Step, lookBy, lookAt, pairFrom, stepAt, stepsOf, added, traced}
-use Rattle.trace.proofs.Kept.{chosen-apart, Keeps, rebuilt-keeps, counted-keeps}
-use Rattle.trace.proofs.Passes.{Steps, pass-steps, pair-look}
+use Rattle.trace.proofs.Kept.{chosen-apart, rebuilt-keeps, counted-keeps}
+use Rattle.trace.proofs.Passes.{look-run, pass-steps, pair-look}
 use Rattle.trace.proofs.Rests.{same-reconstructed}
-use Rattle.trace.proofs.Trace.{look-run}
 
 module _ (g : Given) (m : List ℕ) where
   -- the floats are long enough
@@ -51,29 +50,32 @@ module _ (g : Given) (m : List ℕ) where
   look-roomy v Optimal l r = rebuilt-keeps g m Roomy roomy-rebuilt roomy-moved v (record { kept = r; active = l }) .kept
 
   module _ (b : List Float) where
-    -- the step of the pass that begins in w, with the pair of positions i and j
-    pub record StepLeft (w : Full) (i j : ℕ) : Type 0 where
-      pub adds : added g m b true w ≡ stepAt g m (passed g m b w) i j ∷ []
-      -- two active positions
-      pub active-i : i < countedDown g m w .run .active
-      pub active-j : j < countedDown g m w .run .active
+    -- e is the step that the pass which begins in w adds
+    pub record StepLeft (w : Full) (e : Step) : Type 0 where
+      pub adds : added g m b true w ≡ e ∷ []
+      -- of two active positions
+      pub active-i : e .i < countedDown g m w .run .active
+      pub active-j : e .j < countedDown g m w .run .active
       pub below : countedDown g m w .run .active ≤ g .n
-      pub apart : i ≡ j → ⊥
-      -- the samples that stand there after the pass stood there at the step
-      pub stood : passed g m b w .state .numbers ≡ countedDown g m w .state .numbers
-      -- the weights are those that the update's pair holds
-      pub left-i : alpha (problemOf g m) (passed g m b w .state) i .value ≡ pairAt (problemOf g m) b (g .floor) (lookAt g m (countedDown g m w) .state) i j .i .value
-      pub left-j : alpha (problemOf g m) (passed g m b w .state) j .value ≡ pairAt (problemOf g m) b (g .floor) (lookAt g m (countedDown g m w) .state) i j .j .value
+      pub apart : e .i ≡ e .j → ⊥
+      -- of the samples that stood there when the pair was chosen
+      pub stood-i : e .sampleI ≡ sample (countedDown g m w .state) (e .i)
+      pub stood-j : e .sampleJ ≡ sample (countedDown g m w .state) (e .j)
+      -- the weights are those of the update's pair, and those that stand there after the pass
+      pub pair-i : e .leftI ≡ pairAt (problemOf g m) b (g .floor) (lookAt g m (countedDown g m w) .state) (e .i) (e .j) .i .value
+      pub pair-j : e .leftJ ≡ pairAt (problemOf g m) b (g .floor) (lookAt g m (countedDown g m w) .state) (e .i) (e .j) .j .value
+      pub after-i : e .leftI ≡ alpha (problemOf g m) (passed g m b w .state) (e .i) .value
+      pub after-j : e .leftJ ≡ alpha (problemOf g m) (passed g m b w .state) (e .j) .value
 
-    pub step-left : (w : Full) (i j : ℕ) → w .run .active ≤ g .n → Roomy (w .state) → pairFrom g m w ≡ Pair i j → StepLeft w i j
+    pub step-left : (w : Full) (i j : ℕ) → w .run .active ≤ g .n → Roomy (w .state) → pairFrom g m w ≡ Pair i j → StepLeft w (stepAt g m (passed g m b w) i j)
     unfolding added stepsOf
     step-left w i j l r e =
         let p = problemOf g m in
         let v = countedDown g m w in
         let u = lookAt g m v in
         let k = counted-keeps g m Roomy roomy-rebuilt roomy-moved w (record { kept = r; active = l }) in
-        let c = pair-look g m b w i j e in
-        let same = ap (λ q. q .active) (look-run g m b v (chosen g m v)) in
+        let c = pair-look g m w i j e in
+        let same = ap (λ q. q .active) (look-run g m v (chosen g m v)) in
         let inside = chosen-below g m u i j c in
         let apart = chosen-apart g m u i j c in
         let few = k .active in
@@ -81,19 +83,23 @@ module _ (g : Given) (m : List ℕ) where
         let room = look-roomy v (chosen g m v) (k .active) (k .kept) in
         let i-in = inside .0 in
         let j-in = inside .1 in
+        let stood : passed g m b w .state .numbers ≡ v .state .numbers = ap (λ (s : State). s .numbers) (step .state) ∙ look-numbers v (chosen g m v) in
         record {
           adds = rw e;
           active-i = rw same at i-in;
           active-j = rw same at j-in;
           below = few;
           apart = apart;
-          stood = ap (λ (s : State). s .numbers) (step .state) ∙ look-numbers v (chosen g m v);
-          left-i =
+          stood-i = ap (λ (u : List ℕ). getD u i 0) stood;
+          stood-j = ap (λ (u : List ℕ). getD u j 0) stood;
+          pair-i =
               ap (λ (s : State). alpha p s i .value) (step .state)
               ∙ ap (λ a. a .value) (alpha-i p b (g .floor) (u .state) i j (u .run .active) (omega arith) (omega arith) (omega arith) room apart);
-          left-j =
+          pair-j =
               ap (λ (s : State). alpha p s j .value) (step .state)
               ∙ ap (λ a. a .value) (alpha-j p b (g .floor) (u .state) i j (u .run .active) (omega arith) (omega arith) (omega arith) room);
+          after-i = refl;
+          after-j = refl;
         }
 
     -- ---- each step of a trace

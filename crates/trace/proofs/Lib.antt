@@ -3,3 +3,5 @@ pub mod Kept
 pub mod Passes
 pub mod Trace
 pub mod Left
+pub mod Rule
+pub mod Worked

@@ -1,9 +1,9 @@
 -- What a pass does, by the pair with which it steps. Assumes nothing.
-use Prim.Native.Nat.{ℕ, _+_, _≤_, _<_}
+use Prim.Native.Nat.{ℕ, _+_}
 use mathlib.Core.Bool.{Bool, true, false}
 use mathlib.Core.List.{List}
 use mathlib.Core.Logic.{_⊎_, inl, inr}
-use mathlib.Core.Path.{_≡_, refl, sym, ap, _∙_}
+use mathlib.Core.Path.{_≡_, refl, sym, _∙_}
 use native.Mathlib.Omega.{arith}
 use lib.Ieee.{Float}
 use Rattle.extreme.specs.declared.Choice.{Choice}
@@ -11,8 +11,7 @@ use Rattle.extreme.specs.declared.Choice.the-variants.{Pair, Optimal}
 use Rattle.solver.specs.Pass.{chosen, rebuilt, countedDown, stepped, looked, workedBy, onward, passed}
 use Rattle.solver.specs.Run.{problemOf, Full, goes}
 use Rattle.solver.specs.declared.Given.{Given}
-use Rattle.solver.specs.declared.Status.the-variants.{Going, Done, Refused}
-use Rattle.solver.proofs.Laws.{counted-iterations}
+use Rattle.solver.specs.declared.Status.the-variants.{Done}
 use Rattle.update.specs.Update.{updatedState}
 use Rattle.trace.specs.Trace.{lookBy, lookAt, pairOn, pairFrom}
 
@@ -21,6 +20,23 @@ not-optimal i j q = let z : _≡_ {A = ℕ} 0 1 = cc in omega arith
 
 same-pair : (h k i j : ℕ) → Pair h k ≡ Pair i j → (h ≡ i) × (k ≡ j)
 same-pair h k i j q = let x : h ≡ i = cc in let y : k ≡ j = cc in (x, y)
+
+module _ (g : Given) (m : List ℕ) where
+  -- no look changes the small record
+  pub look-run : (v : Full) (c : Choice) → lookBy g m v c .run ≡ v .run
+  unfolding lookBy rebuilt
+  look-run v (Pair i j) = refl
+  look-run v Optimal = refl
+
+  -- the state of the last look gives the pair
+  on-look : (x : Bool) (v : Full) (i j : ℕ) → pairOn g m x v ≡ Pair i j → chosen g m (lookAt g m v) ≡ Pair i j
+  unfolding pairOn
+  on-look true v i j e = e
+  on-look false v i j e = absurd (not-optimal i j e)
+
+  pub pair-look : (w : Full) (i j : ℕ) → pairFrom g m w ≡ Pair i j → chosen g m (lookAt g m (countedDown g m w)) ≡ Pair i j
+  unfolding pairFrom
+  pair-look w i j e = let v = countedDown g m w in on-look (goes (v .run .status)) v i j e
 
 module _ (g : Given) (m : List ℕ) (b : List Float) where
   -- from the state of the look u, the pass that leaves v steps with i and j: one update, one iteration
@@ -53,16 +69,6 @@ module _ (g : Given) (m : List ℕ) (b : List Float) where
   pub pass-steps : (w : Full) (i j : ℕ) → pairFrom g m w ≡ Pair i j → Steps (lookAt g m (countedDown g m w)) (passed g m b w) i j
   unfolding passed pairFrom
   pass-steps w i j e = let v = countedDown g m w in onward-steps (goes (v .run .status)) v i j e
-
-  -- that state gives the pair
-  on-look : (x : Bool) (v : Full) (i j : ℕ) → pairOn g m x v ≡ Pair i j → chosen g m (lookAt g m v) ≡ Pair i j
-  unfolding pairOn
-  on-look true v i j e = e
-  on-look false v i j e = absurd (not-optimal i j e)
-
-  pub pair-look : (w : Full) (i j : ℕ) → pairFrom g m w ≡ Pair i j → chosen g m (lookAt g m (countedDown g m w)) ≡ Pair i j
-  unfolding pairFrom
-  pair-look w i j e = let v = countedDown g m w in on-look (goes (v .run .status)) v i j e
 
   -- ---- a pass with no pair
 

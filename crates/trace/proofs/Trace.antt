@@ -1,10 +1,10 @@
 -- The run, told by its passes and by its steps. Assumes nothing.
-use Prim.Native.Nat.{ℕ, zero, suc, _+_, _*_, _≤_, _<_}
+use Prim.Native.Nat.{ℕ, zero, suc, _+_, _≤_, _<_}
 use mathlib.Core.Bool.{Bool, true, false, _&&_, cond, true≢false}
 use mathlib.Core.List.{List, [], _∷_, _++_, append-nil}
-use mathlib.Core.Logic.{_⊎_, inl, inr}
+use mathlib.Core.Logic.{inl, inr}
 use mathlib.Core.Path.{_≡_, refl, sym, ap, _∙_}
-use native.Mathlib.Nat.{add-zero, zero-add, suc-add, eq-or-lt-of-le, le-of-suc-le-suc}
+use native.Mathlib.Nat.{add-zero, zero-add, suc-add, eq-or-lt-of-le}
 use native.Mathlib.Omega.{arith}
 use lib.Dec.{eqb, ltb}
 use lib.Ieee.{Float}
@@ -15,11 +15,11 @@ use Rattle.extreme.specs.declared.Choice.the-variants.{Pair, Optimal}
 use Rattle.state.specs.Lists.{State}
 use Rattle.solver.specs.End.{activeAt, closed, trained}
 use Rattle.solver.specs.Pass.{chosen, rebuilt, countedDown, passed, next, runs}
-use Rattle.solver.specs.Run.{problemOf, Full, goes, withRun}
+use Rattle.solver.specs.Run.{Full, goes, withRun}
 use Rattle.solver.specs.declared.Given.{Given}
 use Rattle.solver.proofs.Laws.{counted-iterations, runs-off}
-use Rattle.trace.specs.Trace.{lookBy, lookAt, pairFrom, stepAt, stepsOf, added, traced, made, states, startOf, lastOf}
-use Rattle.trace.proofs.Passes.{Steps, pass-steps, Ends, pass-ends}
+use Rattle.trace.specs.Trace.{lookAt, pairFrom, stepsOf, added, traced, made, states, startOf, lastOf}
+use Rattle.trace.proofs.Passes.{look-run, pass-steps, pass-ends}
 
 module _ (g : Given) (m : List ℕ) (b : List Float) (w : Full) where
   -- ---- pass by pass
@@ -100,15 +100,10 @@ module _ (g : Given) (m : List ℕ) (b : List Float) (w : Full) where
 -- ---- iterations
 
 module _ (g : Given) (m : List ℕ) (b : List Float) where
-  pub look-run : (v : Full) (c : Choice) → lookBy g m v c .run ≡ v .run
-  unfolding lookBy rebuilt
-  look-run v (Pair i j) = refl
-  look-run v Optimal = refl
-
   look-iterations : (w : Full) → lookAt g m (countedDown g m w) .run .iterations ≡ w .run .iterations
   look-iterations w =
       let v = countedDown g m w in
-      ap (λ r. r .iterations) (look-run v (chosen g m v)) ∙ counted-iterations g m w
+      ap (λ r. r .iterations) (look-run g m v (chosen g m v)) ∙ counted-iterations g m w
 
   -- a pass is as many iterations as it adds steps
   pass-iterations : (w : Full) → passed g m b w .run .iterations ≡ w .run .iterations + length (stepsOf g m (passed g m b w) (pairFrom g m w))
@@ -141,6 +136,55 @@ module _ (g : Given) (m : List ℕ) (b : List Float) where
       let r = length-append (traced g m b w t) (added g m b x v) in
       omega arith
 
+  -- ---- at most one step in each pass, and one in each while the run goes on
+
+  one-at-most : (x : Bool) (w : Full) → length (added g m b x w) ≤ 1
+  unfolding added stepsOf
+  one-at-most true w = go (pairFrom g m w)
+    where
+      go : (c : Choice) → length (stepsOf g m (passed g m b w) c) ≤ 1
+      go (Pair i j) = omega arith
+      go Optimal = omega arith
+  one-at-most false w = omega arith
+
+  pub steps-at-most : (w : Full) (t : ℕ) → length (traced g m b w t) ≤ t
+  unfolding traced
+  steps-at-most w zero = omega arith
+  steps-at-most w (suc t) =
+      let v = runs g m b w t in
+      let x = goes (v .run .status) in
+      let p = one-at-most x v in
+      let q = steps-at-most w t in
+      let r = length-append (traced g m b w t) (added g m b x v) in
+      omega arith
+
+  -- a pass after which the run goes on has made a step
+  onward-one : (w : Full) → goes (passed g m b w .run .status) ≡ true → length (stepsOf g m (passed g m b w) (pairFrom g m w)) ≡ 1
+  unfolding stepsOf goes
+  onward-one w h = go (pairFrom g m w) refl
+    where
+      go : (c : Choice) → pairFrom g m w ≡ c → length (stepsOf g m (passed g m b w) c) ≡ 1
+      go (Pair i j) e = refl
+      go Optimal e = elim (pass-ends g m b w e) [
+        | inl z ↦ absurd (true≢false (sym h ∙ ap (λ (v : Full). goes (v .run .status)) (z .1) ∙ z .0))
+        | inr z ↦ absurd (true≢false (sym h ∙ ap goes (z .status)))
+      ]
+
+  pub steps-going : (w : Full) (t : ℕ) → goes (runs g m b w t .run .status) ≡ true → length (traced g m b w t) ≡ t
+  unfolding runs next traced added
+  steps-going w zero h = refl
+  steps-going w (suc t) h = go (goes (runs g m b w t .run .status)) refl (steps-going w t) h
+    where
+      go : (x : Bool) → goes (runs g m b w t .run .status) ≡ x → (goes (runs g m b w t .run .status) ≡ true → length (traced g m b w t) ≡ t)
+          → goes (next g m b x (runs g m b w t) .run .status) ≡ true → length (traced g m b w t ++ added g m b x (runs g m b w t)) ≡ suc t
+      go true e ih k =
+          let v = runs g m b w t in
+          let q = ih e in
+          let o = onward-one v k in
+          let r = length-append (traced g m b w t) (stepsOf g m (passed g m b v) (pairFrom g m v)) in
+          omega arith
+      go false e ih k = absurd (true≢false (sym k ∙ e))
+
   closed-iterations : (budget : ℕ) (w : Full) → closed g m budget w .run .iterations ≡ w .run .iterations
   unfolding closed
   closed-iterations budget w = go (eqb (w .run .iterations) budget && ltb (w .run .active) (g .n))
@@ -156,3 +200,14 @@ module _ (g : Given) (m : List ℕ) (b : List Float) where
       closed-iterations budget (runs g m b (startOf g m b s) budget)
       ∙ iterations-are-steps (startOf g m b s) budget
       ∙ zero-add (length (traced g m b (startOf g m b s) budget))
+
+  pub trained-at-most : (budget : ℕ) (s : State) → trained g m b budget s .run .iterations ≤ budget
+  trained-at-most budget s =
+      let e = trained-iterations budget s in
+      let l = steps-at-most (startOf g m b s) budget in
+      omega arith
+
+  -- the answer is read off the last state of those passes
+  pub trained-last : (budget : ℕ) (s : State) → trained g m b budget s ≡ closed g m budget (lastOf (startOf g m b s) (states g m b (startOf g m b s) budget))
+  unfolding trained
+  trained-last budget s = ap (closed g m budget) (sym (last-state g m b (startOf g m b s) budget))

@@ -1,0 +1,1 @@
+// The steps of a run, pass for pass: definitions and theorems only.

@@ -1,1 +1,5 @@
 pub mod Within
+pub mod Rearranged
+pub mod Travel
+pub mod Home
+pub mod Worked

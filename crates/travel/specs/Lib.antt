@@ -1,1 +1,2 @@
 pub mod Travel
+pub mod Home

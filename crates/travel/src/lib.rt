@@ -1,0 +1,1 @@
+// What stays with a sample in a run: definitions and theorems only.

@@ -1,4 +1,4 @@
-use Prim.Native.Nat.{_+_, _*_, _-_, _≤_, _<_}
+use Prim.Native.Nat.{_-_, _≤_}
 use mathlib.Core.Path.{_≡_, refl}
 use native.Mathlib.Numerals.{add-one}
 use native.Mathlib.Omega.{arith}
@@ -9,10 +9,10 @@ use Rattle.readings.proofs.read_crate.Statement.{statement}
 use Rattle.readings.proofs.read_crate.Tie as tie
 
 abbrev Inv-loop : tie.InvT-loop
-Inv-loop res₀ f u n k₀ res k = (k ≤ n) × (length res ≡ length res₀) × (res ≡ gathered u (weightIn n f) res₀ k)
+Inv-loop res₀ f u n i₀ res i = (i ≤ n) × (length res ≡ length res₀) × (res ≡ gathered u (weightIn n f) res₀ i)
 
 abbrev μ-loop : tie.MeasureT-loop
-μ-loop res₀ f u n k₀ res k = n - k
+μ-loop res₀ f u n i₀ res i = n - i
 
 loop-holds : tie.Need-loop-holds Inv-loop μ-loop
 unfolding gathered
@@ -23,7 +23,7 @@ unfolding gathered
 loop-again c = (search needs, search needs, rw add-one (cc))
 
 returns : tie.Need-returns Inv-loop μ-loop
-returns c = let e : c .before .loop .k ≡ c .before .before .args .n = omega arith in rw e at (c .before .loop .inv .2)
+returns c = let e : c .before .loop .i ≡ c .before .before .args .n = omega arith in rw e at (c .before .loop .inv .2)
 
 pub read-crate-spec : {M : Type 1} → statement M
 read-crate-spec =
@@ -35,9 +35,9 @@ read-crate-spec =
     (λ c. search needs)
     (λ c. search needs)
     (λ c. search needs)
-    (λ c. omega (arith, c .before .before .before .pre .3 .below (c .before .before .loop .k) (omega arith)))
-    (λ c. omega (arith, c .before .before .before .pre .3 .below (c .before .before .loop .k) (omega arith)))
-    (λ c. omega (arith, c .before .before .before .before .pre .3 .below (c .before .before .before .loop .k) (omega arith)))
+    (λ c. omega (arith, c .before .before .before .pre .3 .below (c .before .before .loop .i) (omega arith)))
+    (λ c. omega (arith, c .before .before .before .pre .3 .below (c .before .before .loop .i) (omega arith)))
+    (λ c. omega (arith, c .before .before .before .before .pre .3 .below (c .before .before .before .loop .i) (omega arith)))
     (λ c. search needs)
     (λ c. search needs)
     (λ c. search needs)

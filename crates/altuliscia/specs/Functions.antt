@@ -1,0 +1,64 @@
+-- The C functions: each entry over the host's bytes, with its own working room.
+use Prim.Native.Nat.{ℕ}
+use mathlib.Core.Bool.{Bool, true, not, _&&_}
+use mathlib.Core.List.{List}
+use lib.Dec.{eqb}
+use lib.Ieee.{Float, binary64, ofBits}
+use lib.ListN.{length}
+use Rattle.classification.specs.Entries.{generalSized, fitCSized, fitNuSized, fitOneClassSized}
+use Rattle.fits.specs.Starts.{nothing}
+use Rattle.hosted.specs.Hosted.{decodedTo, eights, hostSizes, room, Handed, delivered, hostedBy}
+
+-- a flag is on when it isn't 0
+abbrev pub isOn : ℕ → Bool
+isOn flag = not (eqb flag 0)
+
+-- a single float travels as a number that holds its eight bytes
+abbrev pub asFloat : ℕ → Float
+asFloat w = ofBits binary64 w
+
+abbrev pub floatsOf : List ℕ → ℕ → List Float
+floatsOf b n = decodedTo b nothing n
+
+abbrev pub sizesOf : ℕ → Bool → List ℕ → List ℕ → List ℕ → List ℕ → ℕ
+sizesOf n inputs m cr h an = hostSizes n inputs (length m) (length cr) (length h) (length an)
+
+abbrev pub generalInputs : ℕ → List ℕ → List ℕ → List ℕ → List ℕ → Bool
+generalInputs n l c a p = eqb (length l) n && eights n (length c) && eights n (length a) && eights n (length p)
+
+-- n, matrix, labels, ceilings, alphas, linear, nu rule, eps, shrinking, budget; crate's reading, home, answer
+unfoldable pub generalHost : ℕ → List ℕ → List ℕ → List ℕ → List ℕ → List ℕ → ℕ → ℕ → ℕ → ℕ → List ℕ → List ℕ → List ℕ → Handed
+generalHost n m l c a p nurule eps shrinking budget cr h an =
+    hostedBy
+    (sizesOf n (generalInputs n l c a p) m cr h an)
+    (delivered n (generalSized n m l (floatsOf c n) (floatsOf a n) (floatsOf p n) (isOn nurule) (asFloat eps) (isOn shrinking) budget room) cr h an)
+    cr
+    h
+    an
+
+unfoldable pub cHost : ℕ → List ℕ → List ℕ → ℕ → ℕ → ℕ → ℕ → ℕ → List ℕ → List ℕ → List ℕ → Handed
+cHost n m l cpos cneg eps shrinking budget cr h an =
+    hostedBy
+    (sizesOf n (eqb (length l) n) m cr h an)
+    (delivered n (fitCSized n m l (asFloat cpos) (asFloat cneg) (asFloat eps) (isOn shrinking) budget room) cr h an)
+    cr
+    h
+    an
+
+unfoldable pub nuHost : ℕ → List ℕ → List ℕ → ℕ → ℕ → ℕ → ℕ → List ℕ → List ℕ → List ℕ → Handed
+nuHost n m l nu eps shrinking budget cr h an =
+    hostedBy
+    (sizesOf n (eqb (length l) n) m cr h an)
+    (delivered n (fitNuSized n m l (asFloat nu) (asFloat eps) (isOn shrinking) budget room) cr h an)
+    cr
+    h
+    an
+
+unfoldable pub oneClassHost : ℕ → List ℕ → ℕ → ℕ → ℕ → ℕ → List ℕ → List ℕ → List ℕ → Handed
+oneClassHost n m nu eps shrinking budget cr h an =
+    hostedBy
+    (sizesOf n true m cr h an)
+    (delivered n (fitOneClassSized n m (asFloat nu) (asFloat eps) (isOn shrinking) budget room) cr h an)
+    cr
+    h
+    an

@@ -1,0 +1,1 @@
+// Theorems only: the box, and no NaN step, over a whole run.

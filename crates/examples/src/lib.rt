@@ -1,0 +1,1 @@
+// Theorems only: the worked examples, one table.

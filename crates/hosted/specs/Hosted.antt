@@ -1,0 +1,69 @@
+-- Lists and answers as the host's bytes (the rule, section 'What a caller lends and gets').
+use Prim.Native.Nat.{ℕ, zero, suc, _*_, _/_, _%_}
+use mathlib.Core.Bool.{Bool, not, _&&_, cond}
+use mathlib.Core.List.{List}
+use lib.Dec.{eqb, leb}
+use lib.Ieee.{Float, nan}
+use lib.ListN.{length, getD, set, replicate}
+use Rattle.alpha.specs.Weight as Weight
+use Rattle.answer.specs.Answer.{wordsOf}
+use Rattle.answer.specs.Lent.{Lent, lent, Whole}
+use Rattle.answer.specs.declared.Outcome.{Outcome}
+use Rattle.answer.specs.declared.Outcome.the-variants.{Accepted, Refused}
+use Rattle.judge.specs.Sizes.{sizes}
+use Rattle.wire.specs.Wire.{floatAt, withDigits, withFloat}
+
+-- d with the first floats of the bytes b
+unfoldable pub decodedTo : List ℕ → List Float → ℕ → List Float
+decodedTo b d zero = d
+decodedTo b d (suc k) = set (decodedTo b d k) k (floatAt b (8 * k))
+
+-- b with the first floats of d
+unfoldable pub storedTo : List Float → List ℕ → ℕ → List ℕ
+storedTo d b zero = b
+storedTo d b (suc k) = withFloat (storedTo d b k) (8 * k) (getD d k nan)
+
+-- out with the first words of w
+unfoldable pub wordsTo : List ℕ → List ℕ → ℕ → List ℕ
+wordsTo w out zero = out
+wordsTo w out (suc k) = withDigits (wordsTo w out k) (8 * k) (getD w k 0) 8
+
+-- the answer's 72 bytes
+abbrev pub answeredBy : Outcome → List ℕ → List ℕ
+answeredBy o out = wordsTo (wordsOf o) out 9
+
+-- k bytes are n floats
+abbrev pub eights : ℕ → ℕ → Bool
+eights n k = eqb (k / 8) n && eqb (k % 8) 0
+
+-- refusals 1 and 2: result lists in bytes, an answer of 72 bytes at least, and the working room that the call brings
+unfoldable pub hostSizes : ℕ → Bool → ℕ → ℕ → ℕ → ℕ → ℕ
+hostSizes n inputs m cr h an = sizes n (inputs && leb 72 an) m (cr / 8) (h / 8) 3584 1024 512
+
+abbrev pub room : Lent
+room = lent (replicate 512 Weight.zero) (replicate 512 Weight.zero) (replicate 3584 Weight.zero) (replicate 1024 0) (replicate 512 0)
+
+-- the result, and the three lists that the host lends to be written
+pub record Handed : Type 0 where
+  pub code : ℕ
+  pub crate : List ℕ
+  pub home : List ℕ
+  pub answer : List ℕ
+
+abbrev pub handed : ℕ → List ℕ → List ℕ → List ℕ → Handed
+handed k cr h an = record { code = k; crate = cr; home = h; answer = an }
+
+-- the readings c and r go out only where the run is accepted
+unfoldable pub deliveredBy : ℕ → Outcome → List Float → List Float → List ℕ → List ℕ → List ℕ → Handed
+deliveredBy n (Accepted a) c r cr h an = handed 0 (storedTo c cr n) (storedTo r h n) (answeredBy (Accepted a) an)
+deliveredBy n (Refused number index) c r cr h an = handed number cr h (answeredBy (Refused number index) an)
+
+unfoldable pub delivered : ℕ → Whole → List ℕ → List ℕ → List ℕ → Handed
+delivered n w cr h an = deliveredBy n (w .out) (w .left .crate) (w .left .home) cr h an
+
+-- refusals 1 and 2: an answer that is too short stays as it is
+unfoldable pub turnedAway : ℕ → List ℕ → List ℕ
+turnedAway number an = cond (leb 72 (length an)) (answeredBy (Refused number 0) an) an
+
+unfoldable pub hostedBy : ℕ → Handed → List ℕ → List ℕ → List ℕ → Handed
+hostedBy number w cr h an = cond (eqb number 0) w (handed number cr h (turnedAway number an))
