@@ -3,9 +3,9 @@
 #
 #   links          yes where what links an archive can be built and run here, else no
 #   linked WORDS   runs a cargo command whose program links an archive
-#   x86_cc         the C compiler, x86_cxx the C++ compiler (empty where there is none)
-#   x86_run        what an x86-64 program is run by
-#   x86_packages   the Debian packages that are needed elsewhere
+#   x86_cc         the C compiler
+#   x86_run        what runs an x86-64 program; empty where the machine does
+#   not_linked     says that what links an archive isn't run, and what would make it run
 x86_packages='gcc-x86-64-linux-gnu libc6-dev-amd64-cross qemu-user rustc libstd-rust-dev:amd64'
 x86_target=x86_64-unknown-linux-gnu
 x86_tools=$(pwd)/tools/debian
@@ -13,13 +13,11 @@ x86_tools=$(pwd)/tools/debian
 if [ "$(uname -m)" = x86_64 ]; then
     links=yes
     x86_cc=cc
-    x86_cxx=c++
     x86_run=
     linked() { "$@"; }
 else
     links=no
     x86_cc=x86_64-linux-gnu-gcc
-    x86_cxx=x86_64-linux-gnu-g++
     # With the libraries of amd64 in their own place no other place may be named: two C libraries would be mixed.
     x86_run=qemu-x86_64
     [ -e /lib64/ld-linux-x86-64.so.2 ] || x86_run='qemu-x86_64 -L /usr/x86_64-linux-gnu'
@@ -38,4 +36,7 @@ else
     fi
     linked() { env "${x86_env[@]}" "$@"; }
 fi
-command -v $x86_cxx > /dev/null || x86_cxx=
+
+not_linked() {
+    echo "NOT RUN: what links an archive for x86-64 (C and Rust callers, comparison); on Debian these packages make it run: $x86_packages"
+}

@@ -116,3 +116,70 @@ pub(crate) fn one_class(s: &OneClass, nu: f64, o: &Options, room: &mut Room) -> 
             c.as_mut_ptr().cast(), bytes(c), h.as_mut_ptr().cast(), bytes(h), a.as_mut_ptr(), a.len())
     }
 }
+
+#[cfg(test)]
+mod tests {
+    use super::*;
+
+    /// The bytes that docs/BYTES.md shows from the line of that name on, up to an empty line or another name.
+    fn shown(name: &str) -> Vec<u8> {
+        let text = include_str!("../../../docs/BYTES.md");
+        let mut lines = text.lines();
+        let start = format!("    {:<14}", name);
+        let first = lines.find_map(|l| l.strip_prefix(&start)).unwrap();
+        let rest = lines.map_while(|l| l.strip_prefix("                  "));
+        std::iter::once(first)
+            .chain(rest)
+            .flat_map(|line| line.split_whitespace().take_while(|w| w.len() == 2))
+            .map(|w| u8::from_str_radix(w, 16).unwrap())
+            .collect()
+    }
+
+    fn bytes_of(list: &[f64]) -> Vec<u8> {
+        list.iter().flat_map(|x| x.to_le_bytes()).collect()
+    }
+
+    fn room() -> Room {
+        Room {
+            crate_reading: vec![7.0; 2],
+            home: vec![7.0; 2],
+            answer: [7; 72],
+        }
+    }
+
+    #[test]
+    fn calls_write_what_the_document_shows() {
+        let labels = [true, false];
+        let options = Options {
+            eps: f64::from_bits(0x3f50_624d_d2f1_a9fc),
+            shrinking: true,
+            budget: 2,
+        };
+        assert_eq!(options.eps, 0.001);
+        let mut matrix = [1.0, 0.0, 0.0, 1.0];
+        assert_eq!(shown("matrix"), bytes_of(&matrix));
+        assert_eq!(shown("labels"), labels.map(u8::from));
+        let mut left = room();
+        let problem = Problem {
+            matrix: &matrix,
+            labels: &labels,
+        };
+        assert_eq!(c(&problem, 1.0, 1.0, &options, &mut left), 0);
+        assert_eq!(shown("crate_reading"), bytes_of(&left.crate_reading));
+        assert_eq!(shown("home"), bytes_of(&left.home));
+        assert_eq!(shown("answer"), left.answer);
+
+        matrix[2] = f64::NAN;
+        let mut left = room();
+        let problem = Problem {
+            matrix: &matrix,
+            labels: &labels,
+        };
+        assert_eq!(c(&problem, 1.0, 1.0, &options, &mut left), 3);
+        assert_eq!(shown("refused"), left.answer);
+        assert_eq!(
+            (left.crate_reading, left.home),
+            (vec![7.0; 2], vec![7.0; 2])
+        );
+    }
+}

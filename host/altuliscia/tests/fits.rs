@@ -230,22 +230,3 @@ fn no_number_of_samples_is_too_large_to_be_refused() {
         assert_eq!(refused, Err(Refusal::Length), "{}", n);
     }
 }
-
-#[test]
-fn constants_are_the_headers() {
-    let text = include_str!("../../../include/altuliscia.h");
-    let defined = |name: &str| -> u64 {
-        let line = text
-            .lines()
-            .find_map(|l| l.strip_prefix(&format!("#define {} ", name)));
-        line.unwrap()
-            .split_whitespace()
-            .next()
-            .unwrap()
-            .parse()
-            .unwrap()
-    };
-    assert_eq!(defined("ALTULISCIA_MOST_SAMPLES"), MOST_SAMPLES as u64);
-    assert_eq!(defined("ALTULISCIA_MOST_PASSES"), MOST_PASSES);
-    assert_eq!(defined("ALTULISCIA_STACK_BYTES"), STACK_BYTES as u64);
-}
