@@ -1,4 +1,4 @@
-//! Calls from eight threads at once answer what they answer alone, each on a stack of the size that the header names.
+//! Calls from eight threads at once answer what they answer alone, each on a stack of what the header names and a little for Rust.
 use altuliscia::*;
 
 const THREADS: usize = 8;
@@ -78,12 +78,14 @@ fn eight_threads_answer_as_one_does() {
     std::thread::scope(|scope| {
         for first in 0..THREADS {
             let alone = &alone;
-            scope.spawn(move || {
+            let small = std::thread::Builder::new().stack_size(STACK_BYTES + 65_536);
+            let rounds = move || {
                 for k in 0..ROUNDS {
                     let seed = (first + k) % alone.len();
                     assert_eq!(all_four(seed), alone[seed], "seed {}", seed);
                 }
-            });
+            };
+            small.spawn_scoped(scope, rounds).unwrap();
         }
     });
 }
