@@ -1,0 +1,57 @@
+-- What right sizes in bytes give. Assumes nothing.
+use Prim.Native.Nat.{ℕ, _*_, _/_, _%_, _≤_}
+use mathlib.Core.Bool.{Bool, true, _&&_}
+use mathlib.Core.Path.{_≡_, sym}
+use native.Mathlib.Nat.{div-add-mod', le-of-eq}
+use native.Mathlib.Omega.{arith}
+use borrow.Author.Tests.{leb-true, eqb-true}
+use lib.Dec.{eqb, leb}
+use Rattle.judge.specs.Sizes.{Room}
+use Rattle.judge.proofs.First.{both}
+use Rattle.judge.proofs.Lengths.{inputs-of, room-of}
+use Rattle.hosted.specs.Hosted.{eights, hostSizes}
+
+pub record Serves (n m cr h an : ℕ) : Type 0 where
+  pub room : Room n m 512 512 3584 1024 512
+  pub crate : 8 * n ≤ cr
+  pub home : 8 * n ≤ h
+  pub answer : 72 ≤ an
+
+under : (n k : ℕ) → n ≤ k / 8 → 8 * n ≤ k
+under n k h = omega (arith, div-add-mod' k 8)
+
+module _ (n : ℕ) (inputs : Bool) (m cr h an : ℕ) (e : hostSizes n inputs m cr h an ≡ 0) where
+  both-told : (inputs ≡ true) × (leb 72 an ≡ true)
+  unfolding hostSizes
+  both-told = both inputs (leb 72 an) (inputs-of n (inputs && leb 72 an) m (cr / 8) (h / 8) 3584 1024 512 e)
+
+  pub inputs-right : inputs ≡ true
+  inputs-right = both-told .0
+
+  pub serves : Serves n m cr h an
+  unfolding hostSizes
+  serves =
+      let r = room-of n (inputs && leb 72 an) m (cr / 8) (h / 8) 3584 1024 512 e in
+      record {
+        room = record { some = r .some; most = r .most; matrix = r .matrix; crate = r .most; home = r .most; floats = r .floats; numbers = r .numbers; bytes = r .bytes };
+        crate = under n cr (r .crate);
+        home = under n h (r .home);
+        answer = leb-true 72 an (both-told .1);
+      }
+
+pub labels-long : (n l : ℕ) → eqb l n ≡ true → n ≤ l
+labels-long n l h = le-of-eq (sym (eqb-true l n h))
+
+floats-long : (n k : ℕ) → eights n k ≡ true → 8 * n ≤ k
+floats-long n k h =
+    let e = eqb-true (k / 8) n (both (eqb (k / 8) n) (eqb (k % 8) 0) h .0) in
+    omega (arith, div-add-mod' k 8)
+
+-- labels, and three lists of floats
+pub lists-long : (n l c a p : ℕ) (x y z : Bool) → x ≡ eights n c → y ≡ eights n a → z ≡ eights n p → (eqb l n && x && y && z) ≡ true
+    → (n ≤ l) × (8 * n ≤ c) × (8 * n ≤ a) × (8 * n ≤ p)
+lists-long n l c a p x y z ex ey ez h =
+    let h3 = both (eqb l n && x && y) z h in
+    let h2 = both (eqb l n && x) y (h3 .0) in
+    let h1 = both (eqb l n) x (h2 .0) in
+    (labels-long n l (h1 .0), floats-long n c (rw ex at (h1 .1)), floats-long n a (rw ey at (h2 .1)), floats-long n p (rw ez at (h3 .1)))
