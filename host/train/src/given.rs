@@ -172,32 +172,18 @@ mod tests {
             Err(e) => e,
         };
         for (from, to, message) in [
-            ("budget ", "bucket ", "there is no 'bucket' in a problem"),
-            ("cneg", "cpos", "'cpos' stands there twice"),
-            ("fit        c", "fit        d", "there is no fit 'd'"),
-            (
-                "n          8",
-                "n          9",
-                "n is 9, but there are 8 labels",
-            ),
-            (
-                "shrinking  on",
-                "shrinking  1",
-                "shrinking: '1' is neither on nor off",
-            ),
+            ("\nbudget", "\nbucket", "there is no 'bucket' in a problem"),
+            ("\ncneg", "\ncpos", "'cpos' stands there twice"),
+            ("\ncpos       2", "\n", "'cpos' isn't there"),
+            ("\nfit        c", "\nfit d", "there is no fit 'd'"),
+            ("\nn          8", "\nn 9", "n is 9, but there are 8 labels"),
             ("0.001", "0.x", "eps: what is '0.x'?"),
             ("0.001", "0.001 0.1", "'eps' stands for one word"),
-            ("matrix", "#", "'matrix' isn't there"),
-            ("1 1 0 1", "1 1 2 1", "labels: '2' is neither 0 nor 1"),
+            (" on\n", " 1\n", "shrinking: '1' is neither on nor off"),
+            (" 1 1 0 1 ", " 1 1 2 1 ", "labels: '2' is neither 0 nor 1"),
         ] {
-            assert!(EIGHT.contains(from), "{}", from);
-            let text = EIGHT.replacen(&format!("\n{}", from), &format!("\n{}", to), 1);
-            let text = if text == EIGHT {
-                EIGHT.replacen(from, to, 1)
-            } else {
-                text
-            };
-            assert_eq!(told(&text), message);
+            assert_eq!(EIGHT.matches(from).count(), 1, "{}", from);
+            assert_eq!(told(&EIGHT.replace(from, to)), message);
         }
         assert_eq!(told(" 1 2"), "the first line begins with a space");
     }
