@@ -1,5 +1,5 @@
 //! The four C functions. Every list is lent at an address of its own, odd ones too, between bytes that must stay.
-use crate::reached::{line, Reached};
+use crate::reached::{tell, Reached};
 use oracle::draw::draw_big;
 use oracle::judge::Refusal;
 use oracle::problem::{Entry, Problem, MOST_SAMPLES};
@@ -338,15 +338,19 @@ impl Made {
         answer
     }
 
-    fn print(&self) {
-        self.reached
-            .print("compared but for the sign of a zero rho");
-        line(self.large, "accepted with n of 64 to 512");
-        line(self.odd, "with a list at an odd address");
-        line(self.null, "with an empty list lent as NULL");
-        line(self.short_answer, "with an answer that is too short");
-        line(self.long_answer, "with an answer longer than must be");
-        println!("differ {}", self.differ);
+    fn counts(&self) -> Vec<(u64, String)> {
+        let refusals: Vec<usize> = (1..=11).collect();
+        let zeros = "compared but for the sign of a zero rho";
+        let mut all = self.reached.counts(&Entry::ALL, &refusals, zeros);
+        let rest = [
+            (self.large, "accepted with n of 64 to 512"),
+            (self.odd, "with a list at an odd address"),
+            (self.null, "with an empty list lent as NULL"),
+            (self.short_answer, "with an answer that is too short"),
+            (self.long_answer, "with an answer longer than must be"),
+        ];
+        all.extend(rest.map(|(count, name)| (count, name.to_string())));
+        all
     }
 }
 
@@ -368,7 +372,7 @@ fn spoil(g: &mut Random, p: &mut Problem) -> Spoiled {
 }
 
 /// Compares on every seed from the first to the last: the problem drawn, often with its lists lent otherwise; an accepted one
-/// again with a smaller budget; now and then one of many samples. Says how many calls differ.
+/// again with a smaller budget; now and then one of many samples. Says how many differ.
 pub fn compare(first: u64, last: u64) -> u64 {
     let mut made = Made::default();
     for seed in first..=last {
@@ -386,6 +390,5 @@ pub fn compare(first: u64, last: u64) -> u64 {
             made.call(seed, Call::new(g, p, Spoiled::Nothing));
         }
     }
-    made.print();
-    made.differ
+    tell(&made.counts(), last.saturating_sub(first), made.differ)
 }

@@ -11,7 +11,7 @@ const HELP: &str = "compare SEED COUNT
 compare c FIRST LAST
     the four C functions, on the problems of the seeds FIRST to LAST, of every entry: every field of the answer, both result
     lists, every byte that must stay, refusals with their index, short answers and wrong lengths
-The exit status is 1 where a run differs.";
+What the runs reached is counted. The exit status is 1 where one differs, or where 5000 seeds or more didn't reach everything.";
 
 fn main() -> ExitCode {
     let words: Vec<String> = std::env::args().skip(1).collect();

@@ -46,34 +46,48 @@ impl Reached {
         self.zero_pairs += u64::from(answer.zero_pair);
     }
 
-    /// One line a count; `zeros` says how runs that met zeros of different sign were compared.
-    pub fn print(&self, zeros: &str) {
-        line(self.runs, "runs");
-        for entry in Entry::ALL {
+    /// Every count with its name; of entries and of refusals only those that the comparison can have. `zeros` says how runs that
+    /// met zeros of different sign were compared.
+    pub fn counts(&self, entries: &[Entry], refusals: &[usize], zeros: &str) -> Vec<(u64, String)> {
+        let mut all = vec![(self.runs, "runs".to_string())];
+        for entry in entries {
             let count = self.by_entry[entry.number() as usize];
-            line(count, &format!("of the entry {}", entry.name()));
+            all.push((count, format!("of the entry {}", entry.name())));
         }
-        for (number, count) in self.refused.iter().enumerate().skip(1) {
-            line(*count, &format!("refused with {number}"));
+        for number in refusals {
+            all.push((self.refused[*number], format!("refused with {number}")));
         }
-        line(self.accepted, "accepted");
-        line(self.nu_rule, "accepted under the nu rule");
-        line(self.passes, "passes in all");
-        line(self.ran_out, "ran out of budget");
-        line(self.shrank, "shrank");
-        line(self.moved, "moved");
-        line(self.first_branch, "reconstructed by the first branch");
-        line(self.second_branch, "reconstructed by the second branch");
-        line(self.unshrunk, "unshrunk");
-        line(self.turned, "left an order that isn't its own inverse");
-        line(self.differing, "have readings that differ");
-        line(
-            self.zero_pairs,
-            &format!("met zeros of different sign: {zeros}"),
-        );
+        let rest = [
+            (self.accepted, "accepted"),
+            (self.nu_rule, "accepted under the nu rule"),
+            (self.passes, "passes in all"),
+            (self.ran_out, "ran out of budget"),
+            (self.shrank, "shrank"),
+            (self.moved, "moved"),
+            (self.first_branch, "reconstructed by the first branch"),
+            (self.second_branch, "reconstructed by the second branch"),
+            (self.unshrunk, "unshrunk"),
+            (self.turned, "left an order that isn't its own inverse"),
+            (self.differing, "have readings that differ"),
+        ];
+        all.extend(rest.map(|(count, name)| (count, name.to_string())));
+        let name = format!("met zeros of different sign: {zeros}");
+        all.push((self.zero_pairs, name));
+        all
     }
 }
 
-pub fn line(count: u64, what: &str) {
-    println!("{count:>9}  {what}");
+/// Prints the counts and how many runs differ. So many seeds that everything should be among them are worth less where something
+/// isn't: then that is said, and counts as a difference.
+pub fn tell(counts: &[(u64, String)], seeds: u64, differ: u64) -> u64 {
+    for (count, name) in counts {
+        println!("{count:>9}  {name}");
+    }
+    let mut never = 0;
+    for (_, name) in counts.iter().filter(|c| c.0 == 0 && seeds >= 5000) {
+        println!("never reached: {name}");
+        never += 1;
+    }
+    println!("differ {differ}");
+    differ + never
 }

@@ -1,5 +1,5 @@
 //! The proved run, over lists by position that are handed over loaded.
-use crate::reached::Reached;
+use crate::reached::{tell, Reached};
 use oracle::problem::{Entry, Problem};
 use oracle::run::{canonical, solve, Answer, Outcome, Reason};
 
@@ -128,7 +128,7 @@ fn differs(p: &Problem, answer: &Answer, ran: &Ran) -> Option<&'static str> {
 }
 
 /// Runs each general problem of the seeds with every budget from 1 up to its number of passes (24 at the most) and with its own,
-/// and says how many runs differ.
+/// and says how many differ.
 pub fn compare(seed: u64, count: u64) -> u64 {
     let mut reached = Reached::default();
     let mut parted = 0;
@@ -155,7 +155,6 @@ pub fn compare(seed: u64, count: u64) -> u64 {
             }
         }
     }
-    reached.print("left out");
-    println!("{parted:>9}  differ");
-    parted
+    let counts = reached.counts(&[Entry::General], &[11], "left out");
+    tell(&counts, count, parted)
 }
