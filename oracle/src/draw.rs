@@ -12,11 +12,11 @@ use crate::problem::{Entry, Problem, LIMIT, LIMIT_BITS, MOST_PASSES, MOST_SAMPLE
 use crate::random::Random;
 use crate::run::solve;
 
-const TINY: f64 = f64::from_bits(1);
+const TINY: f64 = 5e-324;
 /// The next f64 above 2^1000.
-pub const PAST_LIMIT: f64 = f64::from_bits(LIMIT_BITS + 1);
+pub const PAST_LIMIT: f64 = LIMIT * PAST_ONE;
 /// The next f64 above 1.
-pub const PAST_ONE: f64 = f64::from_bits(0x3ff0_0000_0000_0001);
+pub const PAST_ONE: f64 = 1.0 + f64::EPSILON;
 
 /// NaN patterns: quiet and signalling, of both signs, with least and greatest
 /// payloads.
@@ -584,7 +584,7 @@ fn ratio(g: &mut Random, n: usize) -> Vec<f64> {
 
 /// Inner products where few points stand for many samples.
 fn repeated(g: &mut Random, n: usize, kind: Kind) -> Vec<f64> {
-    let few = 1 + g.place(n.div_ceil(2));
+    let few = 1 + g.place((n + 1) / 2);
     let wide = 1 + g.place(3);
     let x = points(g, few, wide, kind);
     let which: Vec<usize> = (0..n).map(|_| g.place(few)).collect();
@@ -718,10 +718,10 @@ fn budget(g: &mut Random, p: &mut Problem) {
     if g.one_in(10) {
         p.budget = 2000;
         let answer = solve(p, false);
-        let Some(a) = answer.accepted() else { return };
-        if a.iterations == 2000 {
-            return;
-        }
+        let a = match answer.accepted() {
+            Some(a) if a.iterations < 2000 => a,
+            _ => return,
+        };
         p.budget = match g.below(4) {
             0 => a.iterations.max(1),
             1 => a.iterations + 1,

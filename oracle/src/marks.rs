@@ -50,16 +50,16 @@ pub fn marks(p: &Problem, answer: &Answer) -> Vec<bool> {
     for number in 1..=11 {
         for entry in Entry::ALL {
             if entry.can_refuse(number) {
-                all.push(p.entry == entry && refusal.is_some_and(|r| r.number == number));
+                all.push(p.entry == entry && refusal.map_or(false, |r| r.number == number));
             }
         }
     }
     all.push(refusal.is_some() && faults(p).len() > 1);
-    all.push(refusal.is_some_and(|r| r.index != 0));
+    all.push(refusal.map_or(false, |r| r.index != 0));
     for (_, test) in ACCEPTED {
-        all.push(accepted.is_some_and(|a| test(p, answer, a)));
+        all.push(accepted.map_or(false, |a| test(p, answer, a)));
     }
-    all.push(accepted.is_some_and(|a| a.weights.iter().any(|w| !w.is_finite())));
+    all.push(accepted.map_or(false, |a| a.weights.iter().any(|w| !w.is_finite())));
     all.push(answer.events.second_not_optimal > 0);
     all.push(matches!(answer.outcome, Outcome::Fault(_)));
     all
@@ -105,10 +105,10 @@ const ACCEPTED: &[(&str, Test)] = &[
         w.events.walks > 0 && a.r.is_some()
     }),
     ("shrunk", |p, w, _| {
-        w.events.least_active.is_some_and(|k| k < p.n)
+        w.events.least_active.map_or(false, |k| k < p.n)
     }),
     ("shrunk, nu rule", |p, w, a| {
-        w.events.least_active.is_some_and(|k| k < p.n) && a.r.is_some()
+        w.events.least_active.map_or(false, |k| k < p.n) && a.r.is_some()
     }),
     ("no position left active", |_, w, _| {
         w.events.least_active == Some(0)
@@ -161,9 +161,9 @@ const ACCEPTED: &[(&str, Test)] = &[
     ("walked, gradient not finite", |_, w, a| {
         w.events.walks > 0 && a.gradient.iter().any(|x| !x.is_finite())
     }),
-    ("r finite", |_, _, a| a.r.is_some_and(f64::is_finite)),
+    ("r finite", |_, _, a| a.r.map_or(false, f64::is_finite)),
     ("r not finite", |_, _, a| {
-        a.r.is_some_and(|r| !r.is_finite())
+        a.r.map_or(false, |r| !r.is_finite())
     }),
     ("weight -0", |_, _, a| {
         a.weights.iter().any(|w| is_negative_zero(*w))

@@ -1,7 +1,7 @@
 //! What a caller lends and asks.
 
 /// The largest magnitude of a kernel entry or a ceiling, 2^1000.
-pub const LIMIT: f64 = f64::from_bits(LIMIT_BITS);
+pub const LIMIT: f64 = 1.0715086071862673e301;
 pub const LIMIT_BITS: u64 = 0x7e70_0000_0000_0000;
 
 /// The largest n that is accepted.
@@ -147,5 +147,17 @@ impl Problem {
     /// Puts a pattern in place of matrix entry k.
     pub fn set_pattern(&mut self, k: usize, pattern: u64) {
         self.matrix[8 * k..8 * k + 8].copy_from_slice(&pattern.to_le_bytes());
+    }
+}
+
+#[cfg(test)]
+mod tests {
+    use super::*;
+
+    #[test]
+    fn the_limit_is_written_as_its_pattern() {
+        assert_eq!(LIMIT.to_bits(), LIMIT_BITS);
+        assert_eq!(crate::draw::PAST_LIMIT.to_bits(), LIMIT_BITS + 1);
+        assert_eq!(crate::draw::PAST_ONE.to_bits(), 1.0_f64.to_bits() + 1);
     }
 }

@@ -97,13 +97,13 @@ fn put(out: &mut Vec<u8>, word: u64) {
 /// Bytes, then zeros up to the next multiple of eight.
 fn put_bytes(out: &mut Vec<u8>, bytes: &[u8]) {
     out.extend(bytes);
-    out.resize(out.len().next_multiple_of(8), 0);
+    out.resize((out.len() + 7) / 8 * 8, 0);
 }
 
 /// One signed byte for each entry, where every entry is a whole number from
 /// -128 to 127 and none is -0.
 fn compact(p: &Problem) -> Option<Vec<u8>> {
-    if p.matrix.is_empty() || !p.matrix.len().is_multiple_of(8) {
+    if p.matrix.is_empty() || p.matrix.len() % 8 != 0 {
         return None;
     }
     p.patterns()
@@ -216,7 +216,7 @@ impl<'a> Reader<'a> {
     }
 
     fn padded(&mut self, len: usize) -> Result<&'a [u8], String> {
-        let all = self.take(len.checked_next_multiple_of(8).ok_or("a length wraps")?)?;
+        let all = self.take(len.checked_add(7).ok_or("a length wraps")? / 8 * 8)?;
         if all[len..].iter().any(|b| *b != 0) {
             return Err(format!("padding isn't zero before byte {}", self.at));
         }
@@ -404,7 +404,7 @@ pub fn chosen() -> (Vec<Vec<u8>>, Tally) {
         if bytes.len() > MOST_RECORD_BYTES && !(large && p.n <= 40) {
             continue;
         }
-        let idle = answer.accepted().is_some_and(|a| a.iterations == 0);
+        let idle = answer.accepted().map_or(false, |a| a.iterations == 0);
         let mut with = tally.clone();
         let marks = with.add(&p, &answer);
         let plain = k < PLAIN_DRAWS && !large && (!idle || k % 4 == 0);

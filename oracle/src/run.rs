@@ -230,20 +230,20 @@ pub(crate) fn caught<T>(f: impl FnOnce() -> T) -> Result<T, Stopped> {
     HOOK.call_once(|| {
         let loud = panic::take_hook();
         panic::set_hook(Box::new(move |info| {
-            if QUIET.get() {
+            if QUIET.with(Cell::get) {
                 let file = info.location().map_or("", |l| l.file());
-                WHERE.set(file.to_string());
+                WHERE.with(|at| at.replace(file.to_string()));
             } else {
                 loud(info);
             }
         }));
     });
-    QUIET.set(true);
+    QUIET.with(|quiet| quiet.set(true));
     let result = panic::catch_unwind(AssertUnwindSafe(f));
-    QUIET.set(false);
+    QUIET.with(|quiet| quiet.set(false));
     result.map_err(|payload| Stopped {
         message: message(payload.as_ref()),
-        in_solver: WHERE.take().ends_with("solver_smo.rs"),
+        in_solver: WHERE.with(RefCell::take).ends_with("solver_smo.rs"),
     })
 }
 

@@ -1,176 +1,36 @@
-//! `compare SEED COUNT`: draws problems, runs each general one by the proved run and by the Rust, and compares every list by
-//! position, rho, r, obj, iterations and how the run ended. Short runs are compared after every pass.
-use oracle::marks::is_own_inverse;
-use oracle::problem::{Entry, Problem};
-use oracle::run::{canonical, solve, Answer, Outcome, Reason};
+//! Compares the proved functions with the Rust on drawn problems.
+mod called;
+mod reached;
+mod trial;
+
 use std::process::ExitCode;
 
-extern "C" {
-    /// Slices go as a pointer and a length. What it requires is seen to in `run`.
-    fn trial_run(
-        floats: *mut f64,
-        floats_len: usize,
-        numbers: *mut u64,
-        numbers_len: usize,
-        labels: *mut u8,
-        labels_len: usize,
-        matrix: *const u8,
-        matrix_len: usize,
-        bounds: *const f64,
-        bounds_len: usize,
-        out: *mut f64,
-        out_len: usize,
-        n: usize,
-        nu: u8,
-        shrinking: u8,
-        eps: f64,
-        budget: usize,
-    ) -> u64;
-}
-
-/// What the proved run left.
-struct Ran {
-    floats: Vec<f64>,
-    numbers: Vec<u64>,
-    labels: Vec<u8>,
-    out: [f64; 3],
-    iterations: u64,
-    refused: bool,
-}
-
-/// The lists as a run starts: weights, ceilings and linear terms in their fields, the rest what it should not read.
-fn run(p: &Problem) -> Ran {
-    let n = p.n as usize;
-    let mut floats = vec![f64::NAN; 7 * n];
-    floats[2 * n..3 * n].copy_from_slice(&p.alphas);
-    floats[3 * n..4 * n].copy_from_slice(&p.ceilings);
-    floats[4 * n..5 * n].copy_from_slice(&p.linear);
-    let mut numbers: Vec<u64> = (0..2 * n as u64).map(|k| k % n as u64).collect();
-    let mut labels = p.labels.clone();
-    let mut out = [0.0; 3];
-    let code = unsafe {
-        trial_run(
-            floats.as_mut_ptr(),
-            floats.len(),
-            numbers.as_mut_ptr(),
-            numbers.len(),
-            labels.as_mut_ptr(),
-            labels.len(),
-            p.matrix.as_ptr(),
-            p.matrix.len(),
-            p.ceilings.as_ptr(),
-            p.ceilings.len(),
-            out.as_mut_ptr(),
-            out.len(),
-            n,
-            p.nu_rule as u8,
-            p.shrinking as u8,
-            p.eps,
-            p.budget as usize,
-        )
-    };
-    Ran {
-        floats,
-        numbers,
-        labels,
-        out,
-        iterations: code / 4,
-        refused: code % 4 == 2,
-    }
-}
-
-fn same(a: &[f64], b: &[f64]) -> bool {
-    a.len() == b.len() && a.iter().zip(b).all(|(x, y)| canonical(*x) == canonical(*y))
-}
-
-/// Where the two part, in a word; nothing where they agree.
-fn differs(p: &Problem, answer: &Answer, ran: &Ran) -> Option<&'static str> {
-    let n = p.n as usize;
-    let a = match &answer.outcome {
-        Outcome::Accepted(a) => a,
-        Outcome::Refused(r) => {
-            return if r.number == 11 && ran.refused {
-                None
-            } else {
-                Some("refusal")
-            };
-        }
-        Outcome::Fault(_) => return Some("oracle fault"),
-    };
-    let order: Vec<u64> = a.order.iter().map(|k| *k as u64).collect();
-    let labels: Vec<u8> = a.labels.iter().map(|y| u8::from(*y)).collect();
-    let reason = if ran.iterations == p.budget {
-        Reason::Iterations
-    } else {
-        Reason::Threshold
-    };
-    let tests = [
-        (ran.refused, "refused"),
-        (ran.numbers[..n] != order[..], "order"),
-        (ran.numbers[n..] != order[..], "kernel index"),
-        (ran.labels != labels, "labels"),
-        (!same(&ran.floats[..n], &a.gradient), "gradient"),
-        (!same(&ran.floats[n..2 * n], &a.fixed), "fixed gradient"),
-        (!same(&ran.floats[2 * n..3 * n], &a.weights), "weights"),
-        (!same(&ran.floats[3 * n..4 * n], &a.ceilings), "ceilings"),
-        (!same(&ran.floats[4 * n..5 * n], &a.linear), "linear term"),
-        (canonical(ran.out[0]) != canonical(a.rho), "rho"),
-        (
-            a.r.is_some_and(|r| canonical(ran.out[1]) != canonical(r)),
-            "r",
-        ),
-        (canonical(ran.out[2]) != canonical(a.obj), "obj"),
-        (ran.iterations != a.iterations, "iterations"),
-        (reason != a.reason, "reason"),
-    ];
-    tests
-        .into_iter()
-        .find(|(bad, _)| *bad)
-        .map(|(_, name)| name)
-}
+const HELP: &str = "compare SEED COUNT
+    the proved run by itself, on the general problems of SEED, SEED + 1, ..: every list by position, rho, r, obj, iterations
+    and how the run ended, after every pass of a short run
+compare c FIRST LAST
+    the four C functions, on the problems of the seeds FIRST to LAST, of every entry: every field of the answer, both result
+    lists, every byte that must stay, refusals with their index, short answers and wrong lengths
+What the runs reached is counted. The exit status is 1 where one differs, or where 5000 seeds or more didn't reach everything.";
 
 fn main() -> ExitCode {
-    let words: Vec<u64> = std::env::args()
-        .skip(1)
-        .filter_map(|w| w.parse().ok())
-        .collect();
-    let [seed, count] = words[..] else {
-        eprintln!("compare SEED COUNT");
-        return ExitCode::from(2);
+    let words: Vec<String> = std::env::args().skip(1).collect();
+    let words: Vec<&str> = words.iter().map(String::as_str).collect();
+    let differ = match words[..] {
+        ["c", first, last] => both(first, last).map(|(first, last)| called::compare(first, last)),
+        [seed, count] => both(seed, count).map(|(seed, count)| trial::compare(seed, count)),
+        _ => None,
     };
-    let (mut runs, mut passes, mut parted, mut zero_pairs, mut nu) = (0u64, 0u64, 0u64, 0u64, 0u64);
-    let (mut shrunk, mut refused, mut rebuilt, mut turned) = (0u64, 0u64, 0u64, 0u64);
-    for k in seed..seed + count {
-        let mut p = oracle::draw(k);
-        if p.entry != Entry::General || oracle::judge(&p).is_some() {
-            continue;
-        }
-        let whole = solve(&p, false);
-        let last = whole.accepted().map_or(p.budget.min(12), |a| a.iterations);
-        let mut budgets: Vec<u64> = (1..=last.min(24)).collect();
-        budgets.push(p.budget);
-        for budget in budgets {
-            p.budget = budget;
-            let answer = solve(&p, false);
-            let ran = run(&p);
-            runs += 1;
-            passes += ran.iterations;
-            nu += p.nu_rule as u64;
-            shrunk += (answer.events.walks > 0) as u64;
-            rebuilt += (answer.events.first_branch + answer.events.second_branch > 0) as u64;
-            refused += ran.refused as u64;
-            turned += answer.accepted().is_some_and(|a| !is_own_inverse(&a.order)) as u64;
-            if answer.zero_pair {
-                zero_pairs += 1;
-                continue;
-            }
-            if let Some(what) = differs(&p, &answer, &ran) {
-                parted += 1;
-                println!("seed {k}, budget {budget}: {what}");
-            }
+    match differ {
+        Some(0) => ExitCode::SUCCESS,
+        Some(_) => ExitCode::FAILURE,
+        None => {
+            eprintln!("{HELP}");
+            ExitCode::from(2)
         }
     }
-    println!("{runs} runs of {passes} passes in all, {nu} by the nu rule; {shrunk} shrank, {rebuilt} reconstructed, {refused} were refused with 11, {turned} left an order that isn't its own inverse");
-    println!("{zero_pairs} met zeros of different sign and are left out; {parted} differ");
-    ExitCode::from((parted > 0) as u8)
+}
+
+fn both(a: &str, b: &str) -> Option<(u64, u64)> {
+    Some((a.parse().ok()?, b.parse().ok()?))
 }

@@ -69,7 +69,7 @@ thread_local! {
 }
 
 fn note(f: impl FnOnce(&mut Seen)) {
-    SEEN.with_borrow_mut(f);
+    SEEN.with(|s| f(&mut s.borrow_mut()));
 }
 
 fn count(f: impl FnOnce(&mut Events)) {
@@ -78,15 +78,16 @@ fn count(f: impl FnOnce(&mut Events)) {
 
 /// Opens an empty notebook.
 pub fn begin(keep_trace: bool) {
-    SEEN.set(Seen {
+    let empty = Seen {
         keep_trace,
         ..Seen::default()
-    });
+    };
+    SEEN.with(|s| s.replace(empty));
 }
 
 /// Hands out the notebook and leaves an empty one.
 pub fn take() -> Seen {
-    SEEN.take()
+    SEEN.with(RefCell::take)
 }
 
 pub fn swap() {

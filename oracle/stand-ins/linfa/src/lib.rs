@@ -49,19 +49,19 @@ thread_local! {
 
 /// Forgets what this thread has noted of zero pairs.
 pub fn forget_zero_pair() {
-    ZERO_PAIR.set(false);
+    ZERO_PAIR.with(|met| met.set(false));
 }
 
 /// Whether a `max` or `min` on this thread met two zeros of different sign
 /// since the last [`forget_zero_pair`].
 pub fn met_zero_pair() -> bool {
-    ZERO_PAIR.get()
+    ZERO_PAIR.with(Cell::get)
 }
 
 fn zero_pair(a: f64, b: f64) -> bool {
     let is = a == 0.0 && b == 0.0 && a.is_sign_negative() != b.is_sign_negative();
     if is {
-        ZERO_PAIR.set(true);
+        ZERO_PAIR.with(|met| met.set(true));
     }
     is
 }

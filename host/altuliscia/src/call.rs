@@ -1,0 +1,185 @@
+//! The C functions, and nothing else that is unsafe.
+#![allow(unsafe_code)]
+
+use crate::{Answer, ExitReason, General, OneClass, Options, Problem, Refusal, MOST_SAMPLES};
+
+#[rustfmt::skip]
+extern "C" {
+    fn altuliscia_general(n: usize, matrix: *const u8, matrix_len: usize, labels: *const u8, labels_len: usize,
+        ceilings: *const u8, ceilings_len: usize, alphas: *const u8, alphas_len: usize, linear: *const u8, linear_len: usize,
+        nu_rule: u8, eps: u64, shrinking: u8, budget: u64, crate_reading: *mut u8, crate_reading_len: usize,
+        home: *mut u8, home_len: usize, answer: *mut u8, answer_len: usize) -> u64;
+    fn altuliscia_c(n: usize, matrix: *const u8, matrix_len: usize, labels: *const u8, labels_len: usize,
+        cpos: u64, cneg: u64, eps: u64, shrinking: u8, budget: u64, crate_reading: *mut u8, crate_reading_len: usize,
+        home: *mut u8, home_len: usize, answer: *mut u8, answer_len: usize) -> u64;
+    fn altuliscia_nu(n: usize, matrix: *const u8, matrix_len: usize, labels: *const u8, labels_len: usize,
+        nu: u64, eps: u64, shrinking: u8, budget: u64, crate_reading: *mut u8, crate_reading_len: usize,
+        home: *mut u8, home_len: usize, answer: *mut u8, answer_len: usize) -> u64;
+    fn altuliscia_one_class(n: usize, matrix: *const u8, matrix_len: usize,
+        nu: u64, eps: u64, shrinking: u8, budget: u64, crate_reading: *mut u8, crate_reading_len: usize,
+        home: *mut u8, home_len: usize, answer: *mut u8, answer_len: usize) -> u64;
+}
+
+/// What a call writes.
+pub(crate) struct Room {
+    crate_reading: Vec<f64>,
+    home: Vec<f64>,
+    answer: [u8; 72],
+}
+
+/// Lends room for n samples to a call and reads what it left. More samples than may be are refused without looking at any list,
+/// so no more room than that is taken.
+pub(crate) fn with_room(n: usize, call: impl FnOnce(&mut Room) -> u64) -> Result<Answer, Refusal> {
+    let places = n.min(MOST_SAMPLES);
+    let mut room = Room {
+        crate_reading: vec![0.0; places],
+        home: vec![0.0; places],
+        answer: [0; 72],
+    };
+    let result = call(&mut room);
+    if result != 0 {
+        return Err(Refusal::new(result, room.word(1)));
+    }
+    Ok(Answer {
+        rho: f64::from_bits(room.word(2)),
+        r: (room.word(3) != 0).then(|| f64::from_bits(room.word(4))),
+        obj: f64::from_bits(room.word(5)),
+        iterations: room.word(6),
+        reason: match room.word(7) {
+            0 => ExitReason::Threshold,
+            _ => ExitReason::Iterations,
+        },
+        support: room.word(8),
+        crate_reading: room.crate_reading,
+        home: room.home,
+    })
+}
+
+impl Room {
+    fn word(&self, k: usize) -> u64 {
+        let mut bytes = [0; 8];
+        bytes.copy_from_slice(&self.answer[8 * k..8 * k + 8]);
+        u64::from_le_bytes(bytes)
+    }
+}
+
+/// The length in bytes of a list of doubles. No list is so long that this wraps.
+fn bytes(list: &[f64]) -> usize {
+    std::mem::size_of_val(list)
+}
+
+// In each call every pointer comes from a slice that lives through it, with that slice's length in bytes beside it; the lists that
+// are written are borrowed for that alone. A double is read and written by its eight bytes, lowest first, which is how x86-64 keeps
+// it, and every pattern of eight bytes is a double. A bool is a byte, 0 or 1.
+
+#[rustfmt::skip]
+pub(crate) fn general(g: &General, o: &Options, room: &mut Room) -> u64 {
+    let (m, l) = (g.problem.matrix, g.problem.labels);
+    let (c, h, a) = (&mut room.crate_reading[..], &mut room.home[..], &mut room.answer);
+    unsafe {
+        altuliscia_general(l.len(), m.as_ptr().cast(), bytes(m), l.as_ptr().cast(), l.len(),
+            g.ceilings.as_ptr().cast(), bytes(g.ceilings), g.alphas.as_ptr().cast(), bytes(g.alphas),
+            g.linear.as_ptr().cast(), bytes(g.linear), u8::from(g.nu_rule), o.eps.to_bits(), u8::from(o.shrinking), o.budget,
+            c.as_mut_ptr().cast(), bytes(c), h.as_mut_ptr().cast(), bytes(h), a.as_mut_ptr(), a.len())
+    }
+}
+
+#[rustfmt::skip]
+pub(crate) fn c(p: &Problem, cpos: f64, cneg: f64, o: &Options, room: &mut Room) -> u64 {
+    let (m, l) = (p.matrix, p.labels);
+    let (c, h, a) = (&mut room.crate_reading[..], &mut room.home[..], &mut room.answer);
+    unsafe {
+        altuliscia_c(l.len(), m.as_ptr().cast(), bytes(m), l.as_ptr().cast(), l.len(),
+            cpos.to_bits(), cneg.to_bits(), o.eps.to_bits(), u8::from(o.shrinking), o.budget,
+            c.as_mut_ptr().cast(), bytes(c), h.as_mut_ptr().cast(), bytes(h), a.as_mut_ptr(), a.len())
+    }
+}
+
+#[rustfmt::skip]
+pub(crate) fn nu(p: &Problem, nu: f64, o: &Options, room: &mut Room) -> u64 {
+    let (m, l) = (p.matrix, p.labels);
+    let (c, h, a) = (&mut room.crate_reading[..], &mut room.home[..], &mut room.answer);
+    unsafe {
+        altuliscia_nu(l.len(), m.as_ptr().cast(), bytes(m), l.as_ptr().cast(), l.len(),
+            nu.to_bits(), o.eps.to_bits(), u8::from(o.shrinking), o.budget,
+            c.as_mut_ptr().cast(), bytes(c), h.as_mut_ptr().cast(), bytes(h), a.as_mut_ptr(), a.len())
+    }
+}
+
+#[rustfmt::skip]
+pub(crate) fn one_class(s: &OneClass, nu: f64, o: &Options, room: &mut Room) -> u64 {
+    let m = s.matrix;
+    let (c, h, a) = (&mut room.crate_reading[..], &mut room.home[..], &mut room.answer);
+    unsafe {
+        altuliscia_one_class(s.n, m.as_ptr().cast(), bytes(m),
+            nu.to_bits(), o.eps.to_bits(), u8::from(o.shrinking), o.budget,
+            c.as_mut_ptr().cast(), bytes(c), h.as_mut_ptr().cast(), bytes(h), a.as_mut_ptr(), a.len())
+    }
+}
+
+#[cfg(test)]
+mod tests {
+    use super::*;
+
+    /// The bytes that docs/BYTES.md shows from the line of that name on, up to an empty line or another name.
+    fn shown(name: &str) -> Vec<u8> {
+        let text = include_str!("../../../docs/BYTES.md");
+        let mut lines = text.lines();
+        let start = format!("    {:<14}", name);
+        let first = lines.find_map(|l| l.strip_prefix(&start)).unwrap();
+        let rest = lines.map_while(|l| l.strip_prefix("                  "));
+        std::iter::once(first)
+            .chain(rest)
+            .flat_map(|line| line.split_whitespace().take_while(|w| w.len() == 2))
+            .map(|w| u8::from_str_radix(w, 16).unwrap())
+            .collect()
+    }
+
+    fn bytes_of(list: &[f64]) -> Vec<u8> {
+        list.iter().flat_map(|x| x.to_le_bytes()).collect()
+    }
+
+    fn room() -> Room {
+        Room {
+            crate_reading: vec![7.0; 2],
+            home: vec![7.0; 2],
+            answer: [7; 72],
+        }
+    }
+
+    #[test]
+    fn calls_write_what_the_document_shows() {
+        let labels = [true, false];
+        let options = Options {
+            eps: f64::from_bits(0x3f50_624d_d2f1_a9fc),
+            shrinking: true,
+            budget: 2,
+        };
+        assert_eq!(options.eps, 0.001);
+        let mut matrix = [1.0, 0.0, 0.0, 1.0];
+        assert_eq!(shown("matrix"), bytes_of(&matrix));
+        assert_eq!(shown("labels"), labels.map(u8::from));
+        let mut left = room();
+        let problem = Problem {
+            matrix: &matrix,
+            labels: &labels,
+        };
+        assert_eq!(c(&problem, 1.0, 1.0, &options, &mut left), 0);
+        assert_eq!(shown("crate_reading"), bytes_of(&left.crate_reading));
+        assert_eq!(shown("home"), bytes_of(&left.home));
+        assert_eq!(shown("answer"), left.answer);
+
+        matrix[2] = f64::NAN;
+        let mut left = room();
+        let problem = Problem {
+            matrix: &matrix,
+            labels: &labels,
+        };
+        assert_eq!(c(&problem, 1.0, 1.0, &options, &mut left), 3);
+        assert_eq!(shown("refused"), left.answer);
+        assert_eq!(
+            (left.crate_reading, left.home),
+            (vec![7.0; 2], vec![7.0; 2])
+        );
+    }
+}

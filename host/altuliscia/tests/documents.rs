@@ -1,0 +1,49 @@
+//! What the documents show is what the files say.
+use altuliscia::{MOST_PASSES, MOST_SAMPLES, STACK_BYTES};
+
+#[test]
+fn constants_are_the_headers() {
+    let text = include_str!("../../../include/altuliscia.h");
+    let defined = |name: &str| -> u64 {
+        let line = text
+            .lines()
+            .find_map(|l| l.strip_prefix(&format!("#define {} ", name)));
+        line.unwrap()
+            .split_whitespace()
+            .next()
+            .unwrap()
+            .parse()
+            .unwrap()
+    };
+    assert_eq!(defined("ALTULISCIA_MOST_SAMPLES"), MOST_SAMPLES as u64);
+    assert_eq!(defined("ALTULISCIA_MOST_PASSES"), MOST_PASSES);
+    assert_eq!(defined("ALTULISCIA_STACK_BYTES"), STACK_BYTES as u64);
+}
+
+/// The lines of the README between a fence of that kind and its end, without their indent.
+fn fenced(kind: &str) -> Vec<&'static str> {
+    let text = include_str!("../../../README.md");
+    let fence = format!("```{}", kind);
+    let lines = text.lines().skip_while(|l| *l != fence).skip(1);
+    lines.take_while(|l| *l != "```").map(str::trim).collect()
+}
+
+#[test]
+fn the_readme_shows_the_sources() {
+    for (kind, source) in [
+        ("c", include_str!("../../example/example.c")),
+        ("rust", include_str!("../src/lib.rs")),
+    ] {
+        let strip = |l: &'static str| l.trim_start_matches("//!").trim();
+        let source: Vec<&str> = source.lines().map(strip).collect();
+        let shown = fenced(kind);
+        assert!(shown.len() > 5, "{}", kind);
+        let found = source.windows(shown.len()).any(|part| part == shown);
+        assert!(found, "{}", kind);
+    }
+    let told = include_str!("../../problems/eight.expected");
+    let readme = include_str!("../../../README.md");
+    let mut lines = readme.lines().filter(|l| l.contains("linfa-svm says"));
+    assert!(lines.clone().count() == 3);
+    assert!(lines.all(|l| told.contains(l.trim())));
+}

@@ -1,0 +1,60 @@
+/* Trains on two samples with the identity as kernel matrix, and prints the answer. */
+#include "altuliscia.h"
+
+#include <inttypes.h>
+#include <stdio.h>
+#include <string.h>
+
+enum { N = 2 };
+
+/* The eight bytes of a double as a number. */
+static uint64_t bits(double x) {
+    uint64_t b;
+    memcpy(&b, &x, 8);
+    return b;
+}
+
+static uint64_t number_at(const uint8_t *answer, size_t at) {
+    uint64_t b = 0;
+    for (size_t k = 8; k > 0; k--)
+        b = b << 8 | answer[at + k - 1];
+    return b;
+}
+
+static double double_at(const uint8_t *answer, size_t at) {
+    uint64_t b = number_at(answer, at);
+    double x;
+    memcpy(&x, &b, 8);
+    return x;
+}
+
+static const uint8_t *bytes(const double *list) {
+    return (const uint8_t *)list;
+}
+
+int main(void) {
+    const double matrix[N * N] = {1, 0, 0, 1};
+    const uint8_t labels[N] = {1, 0};
+    double crate_reading[N], home[N];
+    uint8_t answer[ALTULISCIA_ANSWER_BYTES];
+
+    uint64_t refusal = altuliscia_c(N, bytes(matrix), sizeof matrix, labels, sizeof labels, bits(1.0), bits(1.0), bits(0.001), 1, 2,
+                                    (uint8_t *)crate_reading, sizeof crate_reading, (uint8_t *)home, sizeof home, answer, sizeof answer);
+    if (refusal != ALTULISCIA_ACCEPTED) {
+        printf("refused with %" PRIu64 " at index %" PRIu64 "\n", refusal, number_at(answer, ALTULISCIA_AT_INDEX));
+        return 1;
+    }
+
+    printf("rho         %g\n", double_at(answer, ALTULISCIA_AT_RHO));
+    printf("obj         %g\n", double_at(answer, ALTULISCIA_AT_OBJ));
+    printf("iterations  %" PRIu64 "\n", number_at(answer, ALTULISCIA_AT_ITERATIONS));
+    printf("reason      %s\n", number_at(answer, ALTULISCIA_AT_REASON) == ALTULISCIA_THRESHOLD ? "threshold" : "iterations");
+    printf("support     %" PRIu64 "\n", number_at(answer, ALTULISCIA_AT_SUPPORT));
+    for (size_t k = 0; k < N; k++)
+        printf("sample %zu    %g\n", k, home[k]);
+
+    /* A refusal: no sample at all. */
+    refusal = altuliscia_c(0, NULL, 0, NULL, 0, bits(1.0), bits(1.0), bits(0.001), 1, 2, NULL, 0, NULL, 0, answer, sizeof answer);
+    printf("no sample   refused with %" PRIu64 "\n", refusal);
+    return refusal == ALTULISCIA_BAD_SAMPLES ? 0 : 1;
+}

@@ -1,0 +1,107 @@
+/* Measures what each function needs of the stack: each is run on a painted stack, over many problems, and the lowest byte that lost
+ * its paint is looked for. The exit status is 1 where it is more than the header says. */
+#define _POSIX_C_SOURCE 200809L
+#include "altuliscia.h"
+
+#include <pthread.h>
+#include <stdio.h>
+#include <stdlib.h>
+#include <string.h>
+
+enum { MOST = 512, ROOM = 1 << 20, PAINT = 0xa5, RUNS = 400 };
+
+static double matrix[MOST * MOST], ceilings[MOST], alphas[MOST], linear[MOST], crate_reading[MOST], home[MOST];
+static uint8_t labels[MOST], answer[ALTULISCIA_ANSWER_BYTES];
+static uint64_t state, refused[12];
+static uintptr_t call_begins;
+
+static uint64_t below(uint64_t k) {
+    state += 0x9e3779b97f4a7c15u;
+    uint64_t z = (state ^ state >> 30) * 0xbf58476d1ce4e5b9u;
+    z = (z ^ z >> 27) * 0x94d049bb133111ebu;
+    return (z ^ z >> 31) % k;
+}
+
+static uint64_t bits(double x) {
+    uint64_t b;
+    memcpy(&b, &x, 8);
+    return b;
+}
+
+/* A problem of n samples: points of three whole numbers, and the products of them as kernel. */
+static void fill(size_t n) {
+    static double points[MOST][3];
+    for (size_t k = 0; k < n; k++) {
+        for (size_t d = 0; d < 3; d++)
+            points[k][d] = (double)below(9) - 4;
+        labels[k] = (uint8_t)below(2);
+        ceilings[k] = 1 + (double)below(3);
+        alphas[k] = (double)below(2);
+        linear[k] = (double)below(9) - 4;
+    }
+    for (size_t c = 0; c < n; c++)
+        for (size_t r = 0; r < n; r++)
+            matrix[c * n + r] = points[c][0] * points[r][0] + points[c][1] * points[r][1] + points[c][2] * points[r][2];
+}
+
+static uint64_t call(int which, size_t n, uint8_t shrinking) {
+    const uint8_t *m = (const uint8_t *)matrix;
+    uint8_t *c = (uint8_t *)crate_reading, *h = (uint8_t *)home;
+    size_t square = 8 * n * n, list = 8 * n;
+    uint64_t eps = bits(0.001), budget = 1 + below(200);
+    switch (which) {
+    case 0:
+        return altuliscia_general(n, m, square, labels, n, (const uint8_t *)ceilings, list, (const uint8_t *)alphas, list,
+                                  (const uint8_t *)linear, list, (uint8_t)below(2), eps, shrinking, budget, c, list, h, list, answer,
+                                  sizeof answer);
+    case 1:
+        return altuliscia_c(n, m, square, labels, n, bits(1.0), bits(2.0), eps, shrinking, budget, c, list, h, list, answer,
+                            sizeof answer);
+    case 2:
+        return altuliscia_nu(n, m, square, labels, n, bits(0.4), eps, shrinking, budget, c, list, h, list, answer, sizeof answer);
+    default:
+        return altuliscia_one_class(n, m, square, bits(0.4), eps, shrinking, budget, c, list, h, list, answer, sizeof answer);
+    }
+}
+
+static void *work(void *which) {
+    char here = 0;
+    call_begins = (uintptr_t)&here;
+    for (int k = 0; k < RUNS; k++) {
+        size_t n = k == 0 ? MOST : 2 + below(30);
+        fill(n);
+        uint64_t number = call(*(int *)which, n, k % 4 != 1);
+        refused[number < 12 ? number : 0]++;
+    }
+    return NULL;
+}
+
+int main(void) {
+    static const char *names[] = {"general", "c", "nu", "one_class"};
+    size_t most = 0;
+    for (int which = 0; which < 4; which++) {
+        void *stack;
+        pthread_attr_t attributes;
+        pthread_t thread;
+        if (posix_memalign(&stack, 4096, ROOM) != 0)
+            return 2;
+        memset(stack, PAINT, ROOM);
+        if (pthread_attr_init(&attributes) != 0 || pthread_attr_setstack(&attributes, stack, ROOM) != 0)
+            return 2;
+        if (pthread_create(&thread, &attributes, work, &which) != 0 || pthread_join(thread, NULL) != 0)
+            return 2;
+        const uint8_t *lowest = stack;
+        while (*lowest == PAINT)
+            lowest++;
+        size_t used = (size_t)(call_begins - (uintptr_t)lowest);
+        printf("altuliscia_%-10s %6zu bytes of stack\n", names[which], used);
+        most = used > most ? used : most;
+        free(stack);
+    }
+    if (refused[0] < 2 * RUNS) {
+        printf("only %d calls were accepted\n", (int)refused[0]);
+        return 1;
+    }
+    printf("the header says %d at the most\n", ALTULISCIA_STACK_BYTES);
+    return most > ALTULISCIA_STACK_BYTES;
+}
