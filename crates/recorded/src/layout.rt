@@ -1,7 +1,7 @@
 // Where each thing stands in a record, in words of eight bytes. Every function takes any bytes at all.
 ghost use mathlib.Core.Path.{_≡_};
 ghost use Prim.Native.Nat.{_+_, _≤_, _*_};
-ghost use lib.ListN.{length};
+ghost use lib.ListN.{length, take};
 ghost use lib.Ieee.{binary64, ofBits};
 ghost use Rattle.recorded.specs.Record.{wordOf, countOf, storedOf, labelsAt, ceilingsAt, alphasAt, linearAt, answerAt, toldOf, usedOf, partOf, noFloats, floatsTo, signedByte, expandedTo};
 
@@ -102,6 +102,13 @@ pub fn floats(b: &[u8], at: usize, n: usize) -> [f64; 1024]
     let mut d = [0.0f64; 1024];
     load(&mut d, b, at, n);
     d
+}
+
+pub fn first<'a>(d: &'a [f64], n: usize) -> &'a [f64]
+    requires { ⌜ n ≤ length (now d) ⌝ }
+    ensures { λ r. ⌜ now r ≡ take n (now (d .entry)) ⌝ }
+{
+    &d[..n]
 }
 
 fn load(d: &mut [f64], b: &[u8], at: usize, n: usize)

@@ -1,4 +1,5 @@
 // What a call answered and left, held to its record.
+ghost use mathlib.Core.Path.{_≡_};
 ghost use Prim.Native.Nat.{_≤_};
 ghost use lib.ListN.{length};
 use answer::ExitReason;

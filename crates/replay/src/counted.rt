@@ -25,17 +25,25 @@ pub fn skipped(k: u64, t: &mut [u64]) {
     add(t, 22, 1);
 }
 
-// A record that was played, of which d things differ.
-pub fn count(b: &[u8], d: u64, t: &mut [u64]) {
-    let at = layout::answer_at(b);
-    let n = layout::told(b);
+fn count_call(b: &[u8], t: &mut [u64]) {
     add(t, 0, 1);
     add(t, 1 + layout::count(b, 1, 3), 1);
     add(t, 5, layout::word(b, 3) / 2 % 2);
+}
+
+fn count_answer(b: &[u8], at: usize, t: &mut [u64])
+    requires { ⌜ at ≤ 265472 ⌝ }
+{
     add(t, 6 + layout::count(b, at, 11), 1);
     add(t, 18, layout::word(b, at + 6));
-    add(t, 19, one_if(!agree::twice(b, at + 10, n)));
     add(t, 20, layout::word(b, at + 9));
+}
+
+// A record that was played, of which d things differ.
+pub fn count(b: &[u8], d: u64, t: &mut [u64]) {
+    count_call(b, t);
+    count_answer(b, layout::answer_at(b), t);
+    add(t, 19, one_if(!agree::twice(b, layout::answer_at(b) + 10, layout::told(b))));
     add(t, 21, one_if(d > 0));
 }
 

@@ -21,7 +21,10 @@ fn next(fd: i32, rec: &mut [u8]) -> usize
         return 0;
     }
     let e = layout::word(rec, 0) as usize;
-    if (e < 8) | (e > rec.len()) {
+    if e < 8 {
+        return 0;
+    }
+    if e > rec.len() {
         return 0;
     }
     if io::read_full(fd, &mut rec[8..e]) < e - 8 {
