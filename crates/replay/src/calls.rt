@@ -1,5 +1,6 @@
 // A record's call, made with lists that are marked before it.
-ghost use Prim.Native.Nat.{_≤_};
+ghost use mathlib.Core.Path.{_≡_};
+ghost use lib.ListN.{length};
 use answer::Outcome;
 use recorded::agree;
 use recorded::layout;
@@ -143,6 +144,14 @@ fn called(
     fit_one_class(b, m, cr, h, f, u, y)
 }
 
+fn mark(cr: &mut [f64], h: &mut [f64], f: &mut [f64], u: &mut [u64], y: &mut [u8]) {
+    agree::mark_floats(cr);
+    agree::mark_floats(h);
+    agree::mark_floats(f);
+    agree::mark_numbers(u);
+    agree::mark_bytes(y);
+}
+
 // Marks what is lent, calls, and answers how many things differ.
 fn marked(
     k: u64,
@@ -154,23 +163,44 @@ fn marked(
     u: &mut [u64],
     y: &mut [u8],
 ) -> u64 {
-    agree::mark_floats(cr);
-    agree::mark_floats(h);
-    agree::mark_floats(f);
-    agree::mark_numbers(u);
-    agree::mark_bytes(y);
+    mark(cr, h, f, u, y);
     let o = called(b, m, cr, h, f, u, y);
     let a = crate::compared::answer_words(o);
     crate::compared::differing(k, b, &a, cr, h, f, u, y)
 }
 
+// Each of these says no more of its array than the length, so that no proof unfolds its zeros.
+fn places() -> [f64; 1024]
+    ensures { λ r. ⌜ 1024 ≡ length r ⌝ }
+{
+    [0.0; 1024]
+}
+
+fn scratch_floats() -> [f64; 4096]
+    ensures { λ r. ⌜ 4096 ≡ length r ⌝ }
+{
+    [0.0; 4096]
+}
+
+fn scratch_numbers() -> [u64; 2048]
+    ensures { λ r. ⌜ 2048 ≡ length r ⌝ }
+{
+    [0; 2048]
+}
+
+fn scratch_bytes() -> [u8; 1024]
+    ensures { λ r. ⌜ 1024 ≡ length r ⌝ }
+{
+    [0; 1024]
+}
+
 // Lends lists of the recorded lengths.
 pub fn tried(k: u64, b: &[u8], m: &[u8]) -> u64 {
-    let mut cr = [0.0f64; 1024];
-    let mut h = [0.0f64; 1024];
-    let mut f = [0.0f64; 4096];
-    let mut u = [0u64; 2048];
-    let mut y = [0u8; 1024];
+    let mut cr = places();
+    let mut h = places();
+    let mut f = scratch_floats();
+    let mut u = scratch_numbers();
+    let mut y = scratch_bytes();
     let nc = layout::count(b, 14, 1024);
     let nh = layout::count(b, 15, 1024);
     let nf = layout::count(b, 16, 4096);

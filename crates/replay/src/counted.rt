@@ -14,8 +14,10 @@ fn one_if(b: bool) -> u64 {
     if b { 1 } else { 0 }
 }
 
-pub fn unread(t: &mut [u64]) {
-    add(t, 23, 1);
+// Records that couldn't be read, and whether anything follows the last.
+pub fn unread(records: u64, left: u64, t: &mut [u64]) {
+    add(t, 23, records);
+    add(t, 24, left);
 }
 
 pub fn skipped(k: u64, t: &mut [u64]) {
@@ -43,7 +45,11 @@ fn count_answer(b: &[u8], at: usize, t: &mut [u64])
 pub fn count(b: &[u8], d: u64, t: &mut [u64]) {
     count_call(b, t);
     count_answer(b, layout::answer_at(b), t);
-    add(t, 19, one_if(!agree::twice(b, layout::answer_at(b) + 10, layout::told(b))));
+    add(
+        t,
+        19,
+        one_if(!agree::twice(b, layout::answer_at(b) + 10, layout::told(b))),
+    );
     add(t, 21, one_if(d > 0));
 }
 
@@ -81,5 +87,6 @@ pub fn report(t: &[u64; 32]) {
     line(b"zeros of unlike sign   ", t[20]);
     line(b"skipped                ", t[22]);
     line(b"not read               ", t[23]);
+    line(b"after the last         ", t[24]);
     line(b"differ                 ", t[21]);
 }

@@ -3,14 +3,24 @@ mod calls;
 mod compared;
 mod counted;
 
+ghost use mathlib.Core.Path.{_≡_};
 ghost use Prim.Native.Nat.{_≤_};
 ghost use lib.ListN.{length};
 use recorded::layout;
 
-// Room for the largest record, and for the matrix of 512 samples.
-const RECORD: usize = 524288;
+// Room for a record, of which the largest has 279,288 bytes.
+fn record_room() -> [u8; 524288]
+    ensures { λ r. ⌜ 524288 ≡ length r ⌝ }
+{
+    [0; 524288]
+}
 
-const MATRIX: usize = 2097152;
+// Room for the matrix of 512 samples.
+fn matrix_room() -> [u8; 2097152]
+    ensures { λ r. ⌜ 2097152 ≡ length r ⌝ }
+{
+    [0; 2097152]
+}
 
 // Reads the next record to the start of rec, and answers its length, 0 where it isn't whole or has no room.
 fn next(fd: i32, rec: &mut [u8]) -> usize
@@ -43,19 +53,30 @@ fn begin(fd: i32) -> u64 {
     0
 }
 
-// Plays record k with the matrix as it is lent.
+// Plays record k, whose matrix stands in s in form 1.
+fn play_small(k: u64, b: &[u8], s: &[u8], m: &mut [u8], t: &mut [u64])
+    requires { ⌜ 2097152 ≤ length (now m) ⌝ }
+{
+    let e = s.len();
+    if e > 262144 {
+        counted::skipped(k, t);
+        return;
+    }
+    layout::expand(m, s, e);
+    let n = 8 * e;
+    let d = calls::tried(k, b, &m[..n]);
+    counted::count(b, d, t);
+}
+
 fn play(k: u64, b: &[u8], m: &mut [u8], t: &mut [u64])
     requires { ⌜ 2097152 ≤ length (now m) ⌝ }
 {
-    let n = layout::count(b, 9, MATRIX);
-    let stored = layout::part(b, 20, layout::stored(b));
+    let s = layout::part(b, 20, layout::stored(b));
     if layout::word(b, 19) == 1 {
-        layout::expand(m, stored, stored.len());
-        let d = calls::tried(k, b, &m[..n]);
-        counted::count(b, d, t);
+        play_small(k, b, s, m, t);
         return;
     }
-    let d = calls::tried(k, b, stored);
+    let d = calls::tried(k, b, s);
     counted::count(b, d, t);
 }
 
@@ -65,7 +86,6 @@ fn one(fd: i32, k: u64, rec: &mut [u8], m: &mut [u8], t: &mut [u64]) -> bool
 {
     let e = next(fd, rec);
     if e == 0 {
-        counted::unread(t);
         return false;
     }
     let b: &[u8] = &rec[..e];
@@ -77,19 +97,26 @@ fn one(fd: i32, k: u64, rec: &mut [u8], m: &mut [u8], t: &mut [u64]) -> bool
     true
 }
 
-fn each(fd: i32, n: u64, rec: &mut [u8], m: &mut [u8], t: &mut [u64])
+// How many of n records could be read.
+fn each(fd: i32, n: u64, rec: &mut [u8], m: &mut [u8], t: &mut [u64]) -> u64
     requires { ⌜ (8 ≤ length (now rec)) × (2097152 ≤ length (now m)) ⌝ }
+    ensures { λ r. ⌜ r ≤ n ⌝ }
 {
     let mut k: u64 = 0;
     while k < n && one(fd, k, rec, m, t) {
         k += 1;
     }
+    k
 }
 
 fn with_room(fd: i32, t: &mut [u64]) {
-    let mut rec = [0u8; RECORD];
-    let mut m = [0u8; MATRIX];
-    each(fd, begin(fd), &mut rec, &mut m, t);
+    let mut rec = record_room();
+    let mut m = matrix_room();
+    let n = begin(fd);
+    let read = each(fd, n, &mut rec, &mut m, t);
+    let mut more = [0u8; 1];
+    let left = io::read_full(fd, &mut more);
+    counted::unread(n - read, left as u64, t);
 }
 
 fn main() {
