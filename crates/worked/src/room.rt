@@ -28,15 +28,38 @@ pub fn bytes() -> [u8; 513]
     [0; 513]
 }
 
-// A matrix of at most 8 samples.
-pub fn small_matrix() -> [u8; 512]
+pub fn bytes_512() -> [u8; 512]
     ensures { λ r. ⌜ 512 ≡ length r ⌝ }
 {
     [0; 512]
 }
 
-// A matrix of at most 513 samples.
-pub fn large_matrix() -> [u8; 2105352]
+// Matrices of 2, 7, 8, 512 and 513 samples.
+pub fn matrix_2() -> [u8; 32]
+    ensures { λ r. ⌜ 32 ≡ length r ⌝ }
+{
+    [0; 32]
+}
+
+pub fn matrix_7() -> [u8; 392]
+    ensures { λ r. ⌜ 392 ≡ length r ⌝ }
+{
+    [0; 392]
+}
+
+pub fn matrix_8() -> [u8; 512]
+    ensures { λ r. ⌜ 512 ≡ length r ⌝ }
+{
+    [0; 512]
+}
+
+pub fn matrix_512() -> [u8; 2097152]
+    ensures { λ r. ⌜ 2097152 ≡ length r ⌝ }
+{
+    [0; 2097152]
+}
+
+pub fn matrix_513() -> [u8; 2105352]
     ensures { λ r. ⌜ 2105352 ≡ length r ⌝ }
 {
     [0; 2105352]

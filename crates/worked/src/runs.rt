@@ -1,6 +1,4 @@
 // The rule's worked runs.
-ghost use mathlib.Core.Path.{_≡_};
-ghost use lib.ListN.{length};
 use crate::room;
 use crate::told;
 
@@ -105,12 +103,12 @@ fn general(name: &[u8], n: usize, m: &[u8], l: &[u8], c: &[f64], a: &[f64], p: &
 // ---- identity matrix, two samples
 
 fn pair(shrinking: bool) {
-    let mut m = room::small_matrix();
-    room::identity(&mut m[..32], 2);
+    let mut m = room::matrix_2();
+    room::identity(&mut m, 2);
     c(
         b"identity matrix, n 2, labels 1 0, C 1 and 1, budget 2\n",
         2,
-        &m[..32],
+        &m,
         &[1, 0],
         1.0,
         shrinking,
@@ -119,7 +117,7 @@ fn pair(shrinking: bool) {
     c(
         b"identity matrix, n 2, labels 1 0, C 1 and 1, budget 1\n",
         2,
-        &m[..32],
+        &m,
         &[1, 0],
         1.0,
         shrinking,
@@ -128,7 +126,7 @@ fn pair(shrinking: bool) {
     c(
         b"identity matrix, n 2, labels 1 0, C 0.5 and 0.5, budget 2\n",
         2,
-        &m[..32],
+        &m,
         &[1, 0],
         0.5,
         shrinking,
@@ -137,7 +135,7 @@ fn pair(shrinking: bool) {
     c(
         b"identity matrix, n 2, all labels 1, C 1 and 1, budget 2\n",
         2,
-        &m[..32],
+        &m,
         &[1, 1],
         1.0,
         shrinking,
@@ -155,12 +153,12 @@ pub fn pairs() {
 // ---- three free weights and a tail at the ceiling
 
 fn tail_of_five() {
-    let mut m = room::small_matrix();
-    room::identity(&mut m[..512], 8);
+    let mut m = room::matrix_8();
+    room::identity(&mut m, 8);
     general(
         b"general, n 8, a tail of five at the ceiling\n",
         8,
-        &m[..512],
+        &m,
         &[1, 1, 1, 1, 1, 1, 1, 1],
         &[100.0, 100.0, 100.0, 100.0, 100.0, 100.0, 100.0, 100.0],
         &[50.0, 50.0, 50.0, 100.0, 100.0, 100.0, 100.0, 100.0],
@@ -169,12 +167,12 @@ fn tail_of_five() {
 }
 
 fn tail_of_four() {
-    let mut m = room::small_matrix();
-    room::identity(&mut m[..392], 7);
+    let mut m = room::matrix_7();
+    room::identity(&mut m, 7);
     general(
         b"general, n 7, a tail of four at the ceiling\n",
         7,
-        &m[..392],
+        &m,
         &[1, 1, 1, 1, 1, 1, 1],
         &[100.0, 100.0, 100.0, 100.0, 100.0, 100.0, 100.0],
         &[50.0, 50.0, 50.0, 100.0, 100.0, 100.0, 100.0],
@@ -190,39 +188,50 @@ pub fn tails() {
 
 // ---- the ends of what is accepted
 
-fn sized(name: &[u8], n: usize, m: &mut [u8], l: &[u8])
-    requires { ⌜ (n ≤ 513) × (length (now m) ≤ 2105352) ⌝ }
-{
-    room::identity(m, n);
-    c(name, n, m, l, 1.0, false, 1000);
+fn size_512() {
+    let mut l = room::bytes_512();
+    room::alternate(&mut l);
+    let mut m = room::matrix_512();
+    room::identity(&mut m, 512);
+    c(
+        b"identity matrix, n 512, labels 1 0 1 0 ..\n",
+        512,
+        &m,
+        &l,
+        1.0,
+        false,
+        1000,
+    );
+}
+
+fn size_513() {
+    let mut l = room::bytes();
+    room::alternate(&mut l);
+    let mut m = room::matrix_513();
+    room::identity(&mut m, 513);
+    c(
+        b"identity matrix, n 513, labels 1 0 1 0 ..\n",
+        513,
+        &m,
+        &l,
+        1.0,
+        false,
+        1000,
+    );
 }
 
 pub fn sizes() {
     io::write_all(1, b"-- the number of samples\n");
-    let mut l = room::bytes();
-    room::alternate(&mut l);
-    let mut m = room::large_matrix();
-    sized(
-        b"identity matrix, n 512\n",
-        512,
-        &mut m[..2097152],
-        &l[..512],
-    );
-    let mut w = room::large_matrix();
-    sized(
-        b"identity matrix, n 513\n",
-        513,
-        &mut w[..2105352],
-        &l[..513],
-    );
+    size_512();
+    size_513();
 }
 
 // The last entry of a matrix of two samples has the pattern w.
 fn entry(name: &[u8], w: u64) {
-    let mut m = room::small_matrix();
-    room::identity(&mut m[..32], 2);
-    room::place(&mut m[..32], 24, w);
-    c(name, 2, &m[..32], &[1, 0], 1.0, false, 2);
+    let mut m = room::matrix_2();
+    room::identity(&mut m, 2);
+    room::place(&mut m, 24, w);
+    c(name, 2, &m, &[1, 0], 1.0, false, 2);
 }
 
 pub fn entries() {
@@ -235,16 +244,11 @@ pub fn entries() {
 
 pub fn shares() {
     io::write_all(1, b"-- nu\n");
-    let mut m = room::small_matrix();
-    room::identity(&mut m[..32], 2);
+    let mut m = room::matrix_2();
+    room::identity(&mut m, 2);
     let above = wire::float_of(0x3ff0_0000_0000_0001);
-    nu(b"nu entry, nu 1\n", &m[..32], &[1, 0], 1.0);
-    nu(
-        b"nu entry, the next f64 above 1\n",
-        &m[..32],
-        &[1, 0],
-        above,
-    );
-    one_class(b"one-class entry, nu 1\n", &m[..32], 1.0);
-    one_class(b"one-class entry, the next f64 above 1\n", &m[..32], above);
+    nu(b"nu entry, nu 1\n", &m, &[1, 0], 1.0);
+    nu(b"nu entry, the next f64 above 1\n", &m, &[1, 0], above);
+    one_class(b"one-class entry, nu 1\n", &m, 1.0);
+    one_class(b"one-class entry, the next f64 above 1\n", &m, above);
 }

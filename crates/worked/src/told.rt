@@ -104,7 +104,7 @@ fn coefficients(name: &[u8], part: &[f64]) {
 }
 
 // The outcome of a run over n samples; its coefficients where there are few.
-pub fn outcome(name: &[u8], o: Outcome, cr: &[f64], h: &[f64], n: usize) {
+pub fn outcome<'a>(name: &[u8], o: Outcome, cr: &'a [f64], h: &'a [f64], n: usize) {
     text(name);
     match o {
         Outcome::Refused(number, index) => {
