@@ -50,6 +50,7 @@ fn weights() {
 }
 
 pub fn told() {
+    io::write_all(1, b"-- leaves\n");
     helpers();
     wholes();
     weights();

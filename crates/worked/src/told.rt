@@ -9,7 +9,7 @@ fn text(s: &[u8]) {
     io::write_all(1, s);
 }
 
-fn fraction(w: u64) {
+fn other(w: u64) {
     match w {
         0x3fe0_0000_0000_0000 => {
             text(b"  0.5\n");
@@ -25,6 +25,15 @@ fn fraction(w: u64) {
         }
         0xfff0_0000_0000_0000 => {
             text(b"  -infinity\n");
+        }
+        0x7ff0_0000_0000_0000 => {
+            text(b"  infinity\n");
+        }
+        0x4059_0000_0000_0000 => {
+            text(b"  100\n");
+        }
+        0xc070_0000_0000_0000 => {
+            text(b"  -256\n");
         }
         _ => {
             text(b"\n");
@@ -49,7 +58,7 @@ fn float(x: f64) {
         0xbff0_0000_0000_0000 => {
             text(b"  -1\n");
         }
-        _ => fraction(w),
+        _ => other(w),
     }
 }
 
