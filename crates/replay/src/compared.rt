@@ -72,58 +72,30 @@ pub fn answer_words(o: Outcome) -> [u64; 9]
     w
 }
 
-fn field(i: usize) {
-    match i {
-        0 => {
-            io::write_all(1, b"refusal number\n");
-        }
-        1 => {
-            io::write_all(1, b"refusal index\n");
-        }
-        2 => {
-            io::write_all(1, b"rho\n");
-        }
-        3 => {
-            io::write_all(1, b"whether r is there\n");
-        }
-        4 => {
-            io::write_all(1, b"r\n");
-        }
-        5 => {
-            io::write_all(1, b"obj\n");
-        }
-        6 => {
-            io::write_all(1, b"iterations\n");
-        }
-        7 => {
-            io::write_all(1, b"exit reason\n");
-        }
-        _ => {
-            io::write_all(1, b"support count\n");
-        }
-    }
-}
-
 fn at_record(k: u64) {
     io::write_all(1, b"record ");
     io::print_decimal(1, k);
     io::write_all(1, b" differs: ");
 }
 
-fn field_noted(k: u64, i: usize, x: u64, y: u64) {
+fn field_noted(k: u64, name: &[u8], x: u64, y: u64) {
     if x != y {
         at_record(k);
-        field(i);
+        io::write_all(1, name);
+        io::write_all(1, b"\n");
     }
 }
 
-fn fields_noted(k: u64, a: &[u64; 9], b: &[u8], at: usize, z: u64)
-    requires { ⌜ at ≤ 300000 ⌝ }
+// Each field that differs, by its name of 16 bytes.
+fn fields_noted(k: u64, a: &[u64; 9], b: &[u8], at: usize, z: u64, names: &[u8])
+    requires { ⌜ (at ≤ 300000) × (144 ≤ length (now names)) ⌝ }
 {
     for i in 0..9 {
         let x = agree::loose(z, i, a[i]);
         let y = agree::loose(z, i, layout::word(b, at + i));
-        field_noted(k, i, x, y);
+        let s = 16 * i;
+        let e = s + 16;
+        field_noted(k, &names[s..e], x, y);
     }
 }
 
@@ -146,7 +118,14 @@ fn answer_noted(k: u64, a: &[u64; 9], b: &[u8], at: usize) -> u64
     if agree::answer_told(a, b, at, z) {
         return 0;
     }
-    fields_noted(k, a, b, at, z);
+    fields_noted(
+        k,
+        a,
+        b,
+        at,
+        z,
+        b"refusal number  refusal index   rho             presence of r   r               obj             iterations      exit reason     support count   ",
+    );
     1
 }
 

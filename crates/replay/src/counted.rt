@@ -1,5 +1,6 @@
 // How many records there are of each kind.
-ghost use Prim.Native.Nat.{_≤_};
+ghost use Prim.Native.Nat.{_+_, _*_, _≤_};
+ghost use lib.ListN.{length};
 use recorded::agree;
 use recorded::layout;
 
@@ -16,15 +17,15 @@ fn one_if(b: bool) -> u64 {
 
 // Records that couldn't be read, and whether anything follows the last.
 pub fn unread(records: u64, left: u64, t: &mut [u64]) {
-    add(t, 23, records);
-    add(t, 24, left);
+    add(t, 22, records);
+    add(t, 23, left);
 }
 
 pub fn skipped(k: u64, t: &mut [u64]) {
     io::write_all(1, b"record ");
     io::print_decimal(1, k);
     io::write_all(1, b" is skipped\n");
-    add(t, 22, 1);
+    add(t, 21, 1);
 }
 
 fn count_call(b: &[u8], t: &mut [u64]) {
@@ -50,7 +51,7 @@ pub fn count(b: &[u8], d: u64, t: &mut [u64]) {
         19,
         one_if(!agree::twice(b, layout::answer_at(b) + 10, layout::told(b))),
     );
-    add(t, 21, one_if(d > 0));
+    add(t, 24, one_if(d > 0));
 }
 
 fn line(name: &[u8], n: u64) {
@@ -59,34 +60,40 @@ fn line(name: &[u8], n: u64) {
     io::write_all(1, b"\n");
 }
 
-fn report_refusals(t: &[u64; 32]) {
-    line(b"refused with 1         ", t[7]);
-    line(b"refused with 2         ", t[8]);
-    line(b"refused with 3         ", t[9]);
-    line(b"refused with 4         ", t[10]);
-    line(b"refused with 5         ", t[11]);
-    line(b"refused with 6         ", t[12]);
-    line(b"refused with 7         ", t[13]);
-    line(b"refused with 8         ", t[14]);
-    line(b"refused with 9         ", t[15]);
-    line(b"refused with 10        ", t[16]);
-    line(b"refused with 11        ", t[17]);
+// n counts from place from on, each with its name of 16 bytes.
+fn table(names: &[u8], t: &[u64], from: usize, n: usize)
+    requires { ⌜ (16 * n ≤ length (now names)) × (from + n ≤ length (now t)) × (n ≤ 32) × (from ≤ 32) ⌝ }
+{
+    for i in 0..n {
+        let s = 16 * i;
+        let e = s + 16;
+        line(&names[s..e], t[from + i]);
+    }
 }
 
 pub fn report(t: &[u64; 32]) {
-    line(b"records                ", t[0]);
-    line(b"general                ", t[1]);
-    line(b"C                      ", t[2]);
-    line(b"nu                     ", t[3]);
-    line(b"one-class              ", t[4]);
-    line(b"with shrinking         ", t[5]);
-    line(b"accepted               ", t[6]);
-    report_refusals(t);
-    line(b"iterations             ", t[18]);
-    line(b"readings that differ   ", t[19]);
-    line(b"zeros of unlike sign   ", t[20]);
-    line(b"skipped                ", t[22]);
-    line(b"not read               ", t[23]);
-    line(b"after the last         ", t[24]);
-    line(b"differ                 ", t[21]);
+    table(
+        b"records         general         C               nu              one-class       shrinking       accepted        ",
+        t,
+        0,
+        7,
+    );
+    table(
+        b"refused 1       refused 2       refused 3       refused 4       refused 5       refused 6       ",
+        t,
+        7,
+        6,
+    );
+    table(
+        b"refused 7       refused 8       refused 9       refused 10      refused 11      ",
+        t,
+        13,
+        5,
+    );
+    table(
+        b"iterations      unlike readings unlike zeros    skipped         not read        left over       differ          ",
+        t,
+        18,
+        7,
+    );
 }

@@ -5,10 +5,10 @@ use Rattle.replay.proofs.compared.fields_noted.Statement.{statement}
 use Rattle.replay.proofs.compared.fields_noted.Tie as tie
 
 abbrev Inv-loop : tie.InvT-loop
-Inv-loop k a b at z i₀ i = i ≤ 9
+Inv-loop k a b at z names i₀ i = i ≤ 9
 
 abbrev μ-loop : tie.MeasureT-loop
-μ-loop k a b at z i₀ i = 9 - i
+μ-loop k a b at z names i₀ i = 9 - i
 
 loop-holds : tie.Need-loop-holds Inv-loop μ-loop
 loop-holds c = search needs
@@ -32,6 +32,11 @@ fields-noted-spec =
     (λ c. search needs)
     (λ c κs. search needs)
     (λ c κs. search needs)
+    (λ c. search needs)
+    (λ c. search needs)
+    (λ c. search needs)
+    (λ c. search needs)
+    (λ c. search needs)
     (λ c κs. search needs)
     (λ c. search needs)
     (λ c. search needs)
