@@ -20,11 +20,14 @@ extern "C" {
         home: *mut u8, home_len: usize, answer: *mut u8, answer_len: usize) -> u64;
 }
 
+/// The bytes of an answer.
+const ANSWER: usize = 72;
+
 /// What a call writes.
 pub(crate) struct Room {
     crate_reading: Vec<f64>,
     home: Vec<f64>,
-    answer: [u8; 72],
+    answer: [u8; ANSWER],
 }
 
 /// Lends room for n samples to a call and reads what it left. More samples than may be are refused without looking at any list,
@@ -34,7 +37,7 @@ pub(crate) fn with_room(n: usize, call: impl FnOnce(&mut Room) -> u64) -> Result
     let mut room = Room {
         crate_reading: vec![0.0; places],
         home: vec![0.0; places],
-        answer: [0; 72],
+        answer: [0; ANSWER],
     };
     let result = call(&mut room);
     if result != 0 {
@@ -75,45 +78,49 @@ fn bytes(list: &[f64]) -> usize {
 #[rustfmt::skip]
 pub(crate) fn general(g: &General, o: &Options, room: &mut Room) -> u64 {
     let (m, l) = (g.problem.matrix, g.problem.labels);
-    let (c, h, a) = (&mut room.crate_reading[..], &mut room.home[..], &mut room.answer);
+    let (lc, lh) = (bytes(&room.crate_reading), bytes(&room.home));
+    let (c, h, a) = (&mut room.crate_reading, &mut room.home, &mut room.answer);
     unsafe {
         altuliscia_general(l.len(), m.as_ptr().cast(), bytes(m), l.as_ptr().cast(), l.len(),
             g.ceilings.as_ptr().cast(), bytes(g.ceilings), g.alphas.as_ptr().cast(), bytes(g.alphas),
             g.linear.as_ptr().cast(), bytes(g.linear), u8::from(g.nu_rule), o.eps.to_bits(), u8::from(o.shrinking), o.budget,
-            c.as_mut_ptr().cast(), bytes(c), h.as_mut_ptr().cast(), bytes(h), a.as_mut_ptr(), a.len())
+            c.as_mut_ptr().cast(), lc, h.as_mut_ptr().cast(), lh, a.as_mut_ptr(), ANSWER)
     }
 }
 
 #[rustfmt::skip]
 pub(crate) fn c(p: &Problem, cpos: f64, cneg: f64, o: &Options, room: &mut Room) -> u64 {
     let (m, l) = (p.matrix, p.labels);
-    let (c, h, a) = (&mut room.crate_reading[..], &mut room.home[..], &mut room.answer);
+    let (lc, lh) = (bytes(&room.crate_reading), bytes(&room.home));
+    let (c, h, a) = (&mut room.crate_reading, &mut room.home, &mut room.answer);
     unsafe {
         altuliscia_c(l.len(), m.as_ptr().cast(), bytes(m), l.as_ptr().cast(), l.len(),
             cpos.to_bits(), cneg.to_bits(), o.eps.to_bits(), u8::from(o.shrinking), o.budget,
-            c.as_mut_ptr().cast(), bytes(c), h.as_mut_ptr().cast(), bytes(h), a.as_mut_ptr(), a.len())
+            c.as_mut_ptr().cast(), lc, h.as_mut_ptr().cast(), lh, a.as_mut_ptr(), ANSWER)
     }
 }
 
 #[rustfmt::skip]
 pub(crate) fn nu(p: &Problem, nu: f64, o: &Options, room: &mut Room) -> u64 {
     let (m, l) = (p.matrix, p.labels);
-    let (c, h, a) = (&mut room.crate_reading[..], &mut room.home[..], &mut room.answer);
+    let (lc, lh) = (bytes(&room.crate_reading), bytes(&room.home));
+    let (c, h, a) = (&mut room.crate_reading, &mut room.home, &mut room.answer);
     unsafe {
         altuliscia_nu(l.len(), m.as_ptr().cast(), bytes(m), l.as_ptr().cast(), l.len(),
             nu.to_bits(), o.eps.to_bits(), u8::from(o.shrinking), o.budget,
-            c.as_mut_ptr().cast(), bytes(c), h.as_mut_ptr().cast(), bytes(h), a.as_mut_ptr(), a.len())
+            c.as_mut_ptr().cast(), lc, h.as_mut_ptr().cast(), lh, a.as_mut_ptr(), ANSWER)
     }
 }
 
 #[rustfmt::skip]
 pub(crate) fn one_class(s: &OneClass, nu: f64, o: &Options, room: &mut Room) -> u64 {
     let m = s.matrix;
-    let (c, h, a) = (&mut room.crate_reading[..], &mut room.home[..], &mut room.answer);
+    let (lc, lh) = (bytes(&room.crate_reading), bytes(&room.home));
+    let (c, h, a) = (&mut room.crate_reading, &mut room.home, &mut room.answer);
     unsafe {
         altuliscia_one_class(s.n, m.as_ptr().cast(), bytes(m),
             nu.to_bits(), o.eps.to_bits(), u8::from(o.shrinking), o.budget,
-            c.as_mut_ptr().cast(), bytes(c), h.as_mut_ptr().cast(), bytes(h), a.as_mut_ptr(), a.len())
+            c.as_mut_ptr().cast(), lc, h.as_mut_ptr().cast(), lh, a.as_mut_ptr(), ANSWER)
     }
 }
 
@@ -143,7 +150,7 @@ mod tests {
         Room {
             crate_reading: vec![7.0; 2],
             home: vec![7.0; 2],
-            answer: [7; 72],
+            answer: [7; ANSWER],
         }
     }
 
