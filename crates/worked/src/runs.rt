@@ -102,40 +102,36 @@ fn general(name: &[u8], n: usize, m: &[u8], l: &[u8], c: &[f64], a: &[f64], p: &
 
 // ---- identity matrix, two samples
 
-fn pair(shrinking: bool) {
+fn pair(name: &[u8], l: &[u8], cost: f64, shrinking: bool, budget: u64) {
     let mut m = room::matrix_2();
     room::identity(&mut m, 2);
-    c(
+    c(name, 2, &m, l, cost, shrinking, budget);
+}
+
+fn each_pair(shrinking: bool) {
+    pair(
         b"identity matrix, n 2, labels 1 0, C 1 and 1, budget 2\n",
-        2,
-        &m,
         &[1, 0],
         1.0,
         shrinking,
         2,
     );
-    c(
+    pair(
         b"identity matrix, n 2, labels 1 0, C 1 and 1, budget 1\n",
-        2,
-        &m,
         &[1, 0],
         1.0,
         shrinking,
         1,
     );
-    c(
+    pair(
         b"identity matrix, n 2, labels 1 0, C 0.5 and 0.5, budget 2\n",
-        2,
-        &m,
         &[1, 0],
         0.5,
         shrinking,
         2,
     );
-    c(
+    pair(
         b"identity matrix, n 2, all labels 1, C 1 and 1, budget 2\n",
-        2,
-        &m,
         &[1, 1],
         1.0,
         shrinking,
@@ -145,9 +141,9 @@ fn pair(shrinking: bool) {
 
 pub fn pairs() {
     io::write_all(1, b"-- shrinking off\n");
-    pair(false);
+    each_pair(false);
     io::write_all(1, b"-- shrinking on\n");
-    pair(true);
+    each_pair(true);
 }
 
 // ---- three free weights and a tail at the ceiling
