@@ -5,11 +5,11 @@ use answer::Outcome;
 use recorded::agree;
 use recorded::layout;
 
-pub fn labels<'a>(b: &'a [u8]) -> &'a [u8] {
+fn labels<'a>(b: &'a [u8]) -> &'a [u8] {
     layout::part(b, layout::labels_at(b), layout::count(b, 10, 1024))
 }
 
-pub fn shrinking(b: &[u8]) -> bool {
+fn shrinking(b: &[u8]) -> bool {
     layout::word(b, 3) / 2 % 2 == 1
 }
 
@@ -166,11 +166,7 @@ fn marked(
     mark(cr, h, f, u, y);
     let o = called(b, m, cr, h, f, u, y);
     let a = crate::compared::answer_words(o);
-    let d = crate::compared::differing(k, b, &a, cr, h, f, u, y);
-    if layout::word(b, 1) == 0 {
-        return d + crate::left::differing(k, b, m, f, u, y);
-    }
-    d
+    crate::compared::differing(k, b, &a, cr, h, f, u, y)
 }
 
 // Each of these says no more of its array than the length, so that no proof unfolds its zeros.

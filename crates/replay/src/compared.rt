@@ -99,7 +99,7 @@ fn fields_noted(k: u64, a: &[u64; 9], b: &[u8], at: usize, z: u64, names: &[u8])
     }
 }
 
-pub fn noted(k: u64, name: &[u8], same: bool) -> u64
+fn noted(k: u64, name: &[u8], same: bool) -> u64
     ensures { λ r. ⌜ r ≤ 1 ⌝ }
 {
     if same {
@@ -139,9 +139,7 @@ pub fn differing(
     f: &[f64],
     u: &[u64],
     y: &[u8],
-) -> u64
-    ensures { λ r. ⌜ r ≤ 6 ⌝ }
-{
+) -> u64 {
     let at = layout::answer_at(b);
     let n = layout::told(b);
     let used = layout::used(b);

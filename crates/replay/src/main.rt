@@ -2,7 +2,6 @@
 mod calls;
 mod compared;
 mod counted;
-mod left;
 
 ghost use mathlib.Core.Path.{_≡_};
 ghost use Prim.Native.Nat.{_≤_};
