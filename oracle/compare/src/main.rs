@@ -1,6 +1,7 @@
 //! Compares the proved functions with the Rust on drawn problems.
 mod called;
 mod reached;
+mod recorded;
 mod trial;
 
 use std::process::ExitCode;
@@ -11,6 +12,9 @@ const HELP: &str = "compare SEED COUNT
 compare c FIRST LAST
     the four C functions, on the problems of the seeds FIRST to LAST, of every entry: every field of the answer, both result
     lists, every byte that must stay, refusals with their index, short answers and wrong lengths
+compare recorded FILE
+    the proved run by itself, on the recorded general problems: order and weights by position, rho, r, obj, iterations, reason,
+    refusal 11, and the pair and weights of the first 64 passes
 What the runs reached is counted. The exit status is 1 where one differs, or where 5000 seeds or more didn't reach everything.";
 
 fn main() -> ExitCode {
@@ -18,6 +22,7 @@ fn main() -> ExitCode {
     let words: Vec<&str> = words.iter().map(String::as_str).collect();
     let differ = match words[..] {
         ["c", first, last] => both(first, last).map(|(first, last)| called::compare(first, last)),
+        ["recorded", file] => recorded::compare(file),
         [seed, count] => both(seed, count).map(|(seed, count)| trial::compare(seed, count)),
         _ => None,
     };

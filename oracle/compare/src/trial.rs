@@ -27,17 +27,17 @@ extern "C" {
 }
 
 /// What the proved run left.
-struct Ran {
-    floats: Vec<f64>,
-    numbers: Vec<u64>,
-    labels: Vec<u8>,
-    out: [f64; 3],
-    iterations: u64,
-    refused: bool,
+pub struct Ran {
+    pub floats: Vec<f64>,
+    pub numbers: Vec<u64>,
+    pub labels: Vec<u8>,
+    pub out: [f64; 3],
+    pub iterations: u64,
+    pub refused: bool,
 }
 
 /// The lists as a run starts: weights, ceilings and linear terms in their fields, the rest what it should not read.
-fn run(p: &Problem) -> Ran {
+pub fn run(p: &Problem) -> Ran {
     let n = p.n as usize;
     let mut floats = vec![f64::NAN; 7 * n];
     floats[2 * n..3 * n].copy_from_slice(&p.alphas);
