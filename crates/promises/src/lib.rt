@@ -1,0 +1,1 @@
+// The promises about the entries: theorems over their definitions, no code.
