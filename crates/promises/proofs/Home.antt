@@ -9,26 +9,23 @@ use lib.Ieee.{Float, nan}
 use lib.ListN.{length, getD, set, length-set}
 use lib.Seq.{getD-set-same, getD-set-other}
 use Rattle.answer.specs.Answer.{coefficientOf, finishedTo}
-use Rattle.answer.specs.Lent.{Lent, Whole}
-use Rattle.answer.specs.Solved.{stuck, Read, levelAt, homeOf, settledBy, settledOf, solved}
+use Rattle.answer.specs.Lent.{Lent}
+use Rattle.answer.specs.Solved.{stuck, levelAt, homeOf, settledBy, solved}
 use Rattle.answer.specs.declared.Answer.{Answer}
 use Rattle.answer.specs.declared.Finish.{Finish}
-use Rattle.answer.specs.declared.Outcome.the-variants.{Accepted, Refused}
-use Rattle.classification.specs.Entries.{scratchOf, fitted}
-use Rattle.fits.specs.Load.{loaded, loadedFloats, loadedNumbers}
-use Rattle.fits.proofs.Loaded.{ready-loaded, weight-loaded, sample-loaded, index-loaded}
+use Rattle.answer.specs.declared.Outcome.the-variants.{Accepted}
+use Rattle.classification.specs.Entries.{fitted}
+use Rattle.fits.proofs.Loaded.{weight-loaded}
 use Rattle.kernel.specs.Matrix.{Matrix}
 use Rattle.readings.specs.Order.{homeReading, weightIn}
 use Rattle.readings.proofs.Order.{length-scattered}
-use Rattle.solver.specs.End.{trained}
-use Rattle.solver.specs.Run.{Full, problemOf}
+use Rattle.solver.specs.Run.{Full}
 use Rattle.solver.specs.declared.Given.{Given}
-use Rattle.state.specs.Lists.{State, state, Ready}
 use Rattle.travel.specs.Home.{lastLeft}
-use Rattle.travel.specs.Travel.{Fresh}
 use Rattle.travel.proofs.Home.{trained-home}
 use Rattle.promises.specs.Fit.{startFrom, runOf, stepsOf, rOf}
 use Rattle.promises.proofs.Accepts.{refused-apart}
+use Rattle.promises.proofs.Travel.{ready-start, fresh-start}
 
 -- ---- a finished list
 
@@ -78,21 +75,14 @@ module _ (g : Given) (how : Finish) (m l : List ℕ) (c a p : List Float) (budge
   -- g asks for one column for each sample; the lists are as long as the sizes ask
   module _ (square : g .side ≡ g .n) (matrix : Matrix (g .n) m) (floats : 7 * g .n ≤ length (d .floats)) (numbers : 2 * g .n ≤ length (d .numbers)) (bytes : g .n ≤ length (d .bytes))
       (home : g .n ≤ length (d .home)) where
-    ready : Ready (problemOf g m) (startFrom g m l c a p budget d)
-    ready = rw square (ready-loaded (g .n) (g .kind) m l c a p (scratchOf d) matrix floats numbers bytes)
-
-    fresh : Fresh (g .n) (startFrom g m l c a p budget d)
-    fresh = record {
-      order = λ k h. sample-loaded (g .n) (d .numbers) numbers (g .n) k (omega arith) h;
-      index = λ k h. index-loaded (g .n) (d .numbers) numbers (g .n) k (omega arith) h;
-    }
-
     pub fitted-home : (x : Answer) → fitted g how m l c a p budget d .out ≡ Accepted x → (s : ℕ) → s < g .n
         → getD (fitted g how m l c a p budget d .left .home) s nan
         ≡ coefficientOf how (getD l s 0) (rOf g m l c a p budget d) (lastLeft (stepsOf g m l c a p budget d) s (getD a s nan))
     unfolding homeOf
     fitted-home x e s h =
         let w = runOf g m l c a p budget d in
+        let ready = ready-start g m l c a p budget d square matrix floats numbers bytes in
+        let fresh = fresh-start g m l c a p budget d square matrix floats numbers bytes in
         let z = homeReading (g .n) (w .state .numbers) (weightIn (g .n) (w .state .floats)) (d .home) in
         ap (λ (t : List Float). getD t s nan) (fitted-list x e)
         ∙ finished-at how l (rOf g m l c a p budget d) z (g .n) s (rw (length-scattered (w .state .numbers) (weightIn (g .n) (w .state .floats)) (d .home) (g .n)) home) h

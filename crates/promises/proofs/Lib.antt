@@ -1,2 +1,4 @@
 pub mod Accepts
+pub mod Travel
 pub mod Home
+pub mod Entries
