@@ -1,4 +1,5 @@
 pub mod Accepts
 pub mod Travel
 pub mod Home
+pub mod Box
 pub mod Entries
