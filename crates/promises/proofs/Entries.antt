@@ -44,7 +44,7 @@ module _ (n : ℕ) (m l : List ℕ) (c a p : List Float) (nurule : Bool) (eps : 
   unfolding generalOf
   general-entered = entered-in (generalSized n m l c a p nurule eps shrinking budget d) d x (sizesOf n (eqb (length l) n && eqb (length c) n && eqb (length a) n && eqb (length p) n) m d) e
 
-  general-decided : (generalJudged n m l c a p eps budget ≡ Fine) × (generalSized n m l c a p nurule eps shrinking budget d ≡ (fitted (givenOf n TwoClass eps shrinking nurule) Plain m l c a p budget d))
+  pub general-decided : (generalJudged n m l c a p eps budget ≡ Fine) × (generalSized n m l c a p nurule eps shrinking budget d ≡ (fitted (givenOf n TwoClass eps shrinking nurule) Plain m l c a p budget d))
   unfolding generalSized
   general-decided = decided-in (fitted (givenOf n TwoClass eps shrinking nurule) Plain m l c a p budget d) d x (generalJudged n m l c a p eps budget) (sym (ap (λ (w : Whole). w .out) (general-entered .1)) ∙ e)
 
@@ -60,7 +60,7 @@ module _ (n : ℕ) (m l : List ℕ) (c a p : List Float) (nurule : Bool) (eps : 
       let v = general-served in
       ap (λ (w : Whole). getD (w .left .home) s nan) (v .same)
       ∙ fitted-home (givenOf n TwoClass eps shrinking nurule) Plain m l c a p budget d refl (v .usable .matrix) (v .room .floats) (v .room .numbers) (v .room .bytes) (v .room .home) x
-        (sym (ap (λ (w : Whole). w .out) (v .same)) ∙ e) s h
+      (sym (ap (λ (w : Whole). w .out) (v .same)) ∙ e) s h
 
   -- after each number of passes
   pub general-travels : (t : ℕ) → Travelled n (λ k. getD l k 0) (λ k. getD p k nan) (runs (givenOf n TwoClass eps shrinking nurule) m c (startOf (givenOf n TwoClass eps shrinking nurule) m c (startFrom (givenOf n TwoClass eps shrinking nurule) m l c a p budget d)) t .state)
@@ -75,7 +75,7 @@ module _ (n : ℕ) (m l : List ℕ) (cpos cneg eps : Float) (shrinking : Bool) (
   unfolding fitCOf
   c-entered = entered-in (fitCSized n m l cpos cneg eps shrinking budget d) d x (sizesOf n (eqb (length l) n) m d) e
 
-  c-decided : (cJudged n m l cpos cneg eps budget ≡ Fine) × (fitCSized n m l cpos cneg eps shrinking budget d ≡ (fitted (givenOf n TwoClass eps shrinking false) Signed m l (costsTo cpos cneg l nothing n) nothing (evenly minusOne n) budget d))
+  pub c-decided : (cJudged n m l cpos cneg eps budget ≡ Fine) × (fitCSized n m l cpos cneg eps shrinking budget d ≡ (fitted (givenOf n TwoClass eps shrinking false) Signed m l (costsTo cpos cneg l nothing n) nothing (evenly minusOne n) budget d))
   unfolding fitCSized
   c-decided = decided-in (fitted (givenOf n TwoClass eps shrinking false) Signed m l (costsTo cpos cneg l nothing n) nothing (evenly minusOne n) budget d) d x (cJudged n m l cpos cneg eps budget) (sym (ap (λ (w : Whole). w .out) (c-entered .1)) ∙ e)
 
@@ -91,7 +91,7 @@ module _ (n : ℕ) (m l : List ℕ) (cpos cneg eps : Float) (shrinking : Bool) (
       let v = c-served in
       ap (λ (w : Whole). getD (w .left .home) s nan) (v .same)
       ∙ fitted-home (givenOf n TwoClass eps shrinking false) Signed m l (costsTo cpos cneg l nothing n) nothing (evenly minusOne n) budget d refl (v .usable .matrix) (v .room .floats) (v .room .numbers) (v .room .bytes) (v .room .home) x
-        (sym (ap (λ (w : Whole). w .out) (v .same)) ∙ e) s h
+      (sym (ap (λ (w : Whole). w .out) (v .same)) ∙ e) s h
 
   -- after each number of passes
   pub c-travels : (t : ℕ) → Travelled n (λ k. getD l k 0) (λ k. getD (evenly minusOne n) k nan) (runs (givenOf n TwoClass eps shrinking false) m (costsTo cpos cneg l nothing n) (startOf (givenOf n TwoClass eps shrinking false) m (costsTo cpos cneg l nothing n) (startFrom (givenOf n TwoClass eps shrinking false) m l (costsTo cpos cneg l nothing n) nothing (evenly minusOne n) budget d)) t .state)
@@ -106,7 +106,7 @@ module _ (n : ℕ) (m l : List ℕ) (nu eps : Float) (shrinking : Bool) (budget 
   unfolding fitNuOf
   nu-entered = entered-in (fitNuSized n m l nu eps shrinking budget d) d x (sizesOf n (eqb (length l) n) m d) e
 
-  nu-decided : (nuJudged n m l nu eps budget ≡ Fine) × (fitNuSized n m l nu eps shrinking budget d ≡ (fitted (givenOf n TwoClass eps shrinking true) Scaled m l (evenly one n) (sharedTo (half nu n) l nothing n) nothing budget d))
+  pub nu-decided : (nuJudged n m l nu eps budget ≡ Fine) × (fitNuSized n m l nu eps shrinking budget d ≡ (fitted (givenOf n TwoClass eps shrinking true) Scaled m l (evenly one n) (sharedTo (half nu n) l nothing n) nothing budget d))
   unfolding fitNuSized
   nu-decided = decided-in (fitted (givenOf n TwoClass eps shrinking true) Scaled m l (evenly one n) (sharedTo (half nu n) l nothing n) nothing budget d) d x (nuJudged n m l nu eps budget) (sym (ap (λ (w : Whole). w .out) (nu-entered .1)) ∙ e)
 
@@ -122,7 +122,7 @@ module _ (n : ℕ) (m l : List ℕ) (nu eps : Float) (shrinking : Bool) (budget 
       let v = nu-served in
       ap (λ (w : Whole). getD (w .left .home) s nan) (v .same)
       ∙ fitted-home (givenOf n TwoClass eps shrinking true) Scaled m l (evenly one n) (sharedTo (half nu n) l nothing n) nothing budget d refl (v .usable .matrix) (v .room .floats) (v .room .numbers) (v .room .bytes) (v .room .home) x
-        (sym (ap (λ (w : Whole). w .out) (v .same)) ∙ e) s h
+      (sym (ap (λ (w : Whole). w .out) (v .same)) ∙ e) s h
 
   -- after each number of passes
   pub nu-travels : (t : ℕ) → Travelled n (λ k. getD l k 0) (λ k. getD nothing k nan) (runs (givenOf n TwoClass eps shrinking true) m (evenly one n) (startOf (givenOf n TwoClass eps shrinking true) m (evenly one n) (startFrom (givenOf n TwoClass eps shrinking true) m l (evenly one n) (sharedTo (half nu n) l nothing n) nothing budget d)) t .state)
@@ -137,7 +137,7 @@ module _ (n : ℕ) (m : List ℕ) (nu eps : Float) (shrinking : Bool) (budget : 
   unfolding fitOneClassOf
   one-class-entered = entered-in (fitOneClassSized n m nu eps shrinking budget d) d x (sizesOf n true m d) e
 
-  one-class-decided : (oneClassJudged n m nu eps budget ≡ Fine) × (fitOneClassSized n m nu eps shrinking budget d ≡ (fitted (givenOf n OneClass eps shrinking false) Plain m (allPositive n) (evenly one n) (oneClassTo nu n nothing n) nothing budget d))
+  pub one-class-decided : (oneClassJudged n m nu eps budget ≡ Fine) × (fitOneClassSized n m nu eps shrinking budget d ≡ (fitted (givenOf n OneClass eps shrinking false) Plain m (allPositive n) (evenly one n) (oneClassTo nu n nothing n) nothing budget d))
   unfolding fitOneClassSized
   one-class-decided = decided-in (fitted (givenOf n OneClass eps shrinking false) Plain m (allPositive n) (evenly one n) (oneClassTo nu n nothing n) nothing budget d) d x (oneClassJudged n m nu eps budget) (sym (ap (λ (w : Whole). w .out) (one-class-entered .1)) ∙ e)
 
@@ -153,11 +153,10 @@ module _ (n : ℕ) (m : List ℕ) (nu eps : Float) (shrinking : Bool) (budget : 
       let v = one-class-served in
       ap (λ (w : Whole). getD (w .left .home) s nan) (v .same)
       ∙ fitted-home (givenOf n OneClass eps shrinking false) Plain m (allPositive n) (evenly one n) (oneClassTo nu n nothing n) nothing budget d refl (v .usable .matrix) (v .room .floats) (v .room .numbers) (v .room .bytes) (v .room .home) x
-        (sym (ap (λ (w : Whole). w .out) (v .same)) ∙ e) s h
+      (sym (ap (λ (w : Whole). w .out) (v .same)) ∙ e) s h
 
   -- after each number of passes
   pub one-class-travels : (t : ℕ) → Travelled n (λ k. getD (allPositive n) k 0) (λ k. getD nothing k nan) (runs (givenOf n OneClass eps shrinking false) m (evenly one n) (startOf (givenOf n OneClass eps shrinking false) m (evenly one n) (startFrom (givenOf n OneClass eps shrinking false) m (allPositive n) (evenly one n) (oneClassTo nu n nothing n) nothing budget d)) t .state)
   one-class-travels t =
       let v = one-class-served in
       fitted-travels (givenOf n OneClass eps shrinking false) m (allPositive n) (evenly one n) (oneClassTo nu n nothing n) nothing budget d refl (v .usable .matrix) (v .room .floats) (v .room .numbers) (v .room .bytes) t
-

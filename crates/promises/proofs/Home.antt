@@ -87,5 +87,5 @@ module _ (g : Given) (how : Finish) (m l : List ℕ) (c a p : List Float) (budge
         ap (λ (t : List Float). getD t s nan) (fitted-list x e)
         ∙ finished-at how l (rOf g m l c a p budget d) z (g .n) s (rw (length-scattered (w .state .numbers) (weightIn (g .n) (w .state .floats)) (d .home) (g .n)) home) h
         ∙ ap (coefficientOf how (getD l s 0) (rOf g m l c a p budget d))
-          (trained-home g m c budget (startFrom g m l c a p budget d) ready fresh (d .home) home s h
-          ∙ ap (lastLeft (stepsOf g m l c a p budget d) s) (weight-loaded (g .n) c a p (d .floats) floats (g .n) s (omega arith) h))
+        (trained-home g m c budget (startFrom g m l c a p budget d) ready fresh (d .home) home s h
+        ∙ ap (lastLeft (stepsOf g m l c a p budget d) s) (weight-loaded (g .n) c a p (d .floats) floats (g .n) s (omega arith) h))

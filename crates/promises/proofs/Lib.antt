@@ -3,3 +3,4 @@ pub mod Travel
 pub mod Home
 pub mod Box
 pub mod Entries
+pub mod Boxes
