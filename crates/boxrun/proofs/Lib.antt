@@ -1,6 +1,5 @@
 pub mod Kept
 pub mod Started
-pub mod Walked
+pub mod Moved
 pub mod Step
 pub mod Run
-pub mod Passes

@@ -29,7 +29,7 @@ at-place : (h : Found) → T (isAt h) → h ≡ At (placeOf h)
 at-place (At i) t = refl
 at-place Nobody t = absurd t
 
-not-optimal : (i j : ℕ) → Optimal ≡ Pair i j → ⊥
+pub not-optimal : (i j : ℕ) → Optimal ≡ Pair i j → ⊥
 not-optimal i j q = let z : _≡_ {A = ℕ} 0 1 = cc in omega arith
 
 module _ (p : Problem) (s : State) (floor : Float) (lead : Bool → Extreme) (a : ℕ) where

@@ -14,8 +14,8 @@ use Rattle.extreme.specs.declared.Choice.{Choice}
 use Rattle.extreme.specs.declared.Choice.the-variants.{Pair, Optimal}
 use Rattle.reconstruct.specs.Reconstruct.{reconstructed}
 use Rattle.shrink.specs.Drops.{dropsAt}
-use Rattle.shrink.specs.Walk.{Walking, fallen, exchanged, dropped, visited, walked}
 use Rattle.shrink.specs.declared.Limits.{Limits}
+use Rattle.shrink.proofs.Walks.{walks}
 use Rattle.start.specs.Start.{started}
 use Rattle.state.specs.Lists.{State, state}
 use Rattle.state.specs.Moving.{moved}
@@ -25,58 +25,7 @@ use Rattle.solver.specs.Run.{readyOf, problemOf, Full, full, withRun, goes, cou
 use Rattle.solver.specs.declared.Given.{Given}
 use Rattle.solver.proofs.Laws.{chosen-below}
 use Rattle.update.specs.Update.{over, updatedState}
-
--- ---- a walk
-
-fallen-most : {S : Type 0} (drops : S → ℕ → Bool) (s : S) (i a : ℕ) → fallen drops s i a ≤ a
-unfolding fallen
-fallen-most drops s i zero = omega arith
-fallen-most drops s i (suc a) = go (ltb i (suc a) && drops s (suc a)) (fallen-most drops s i a)
-  where
-    go : (b : Bool) → fallen drops s i a ≤ a → cond b (fallen drops s i a) (suc a) ≤ suc a
-    go true h = omega arith
-    go false h = omega arith
-
--- kept, with a count of a at the most
-pub record Walks (P : State → Type 0) (a : ℕ) (w : Walking State) : Type 0 where
-  pub kept : P (w .state)
-  pub most : w .active ≤ a
-
-module _ (n : ℕ) (P : State → Type 0) (on-moved : (s : State) (i j : ℕ) → i < n → j < n → P s → P (moved n s i j))
-    (drops : State → ℕ → Bool) (a : ℕ) (h : a ≤ n) where
-  abbrev W : Walking State → Type 0
-  W = Walks P a
-
-  walks-exchanged : (s : State) (i c : ℕ) → P s → i < n → c < n → c ≤ a → W (exchanged (moved n) s i c)
-  unfolding exchanged
-  walks-exchanged s i c r l g k = record { kept = go (ltb i c); most = k }
-    where
-      go : (b : Bool) → P (cond b (moved n s i c) s)
-      go true = on-moved s i c l g r
-      go false = r
-
-  walks-dropped : (s : State) (i c : ℕ) → P s → i < n → c ≤ a → W (dropped drops (moved n) s i c)
-  unfolding dropped
-  walks-dropped s i zero r l k = record { kept = r; most = omega arith }
-  walks-dropped s i (suc c) r l k =
-      let m = fallen-most drops s i c in
-      walks-exchanged s i (fallen drops s i c) r l (omega arith) (omega arith)
-
-  walks-visited : (i : ℕ) (w : Walking State) → i < n → W w → W (visited drops (moved n) i w)
-  unfolding visited
-  walks-visited i w l r = go (w .refused) (drops (w .state) i)
-    where
-      go : (b c : Bool) → W (cond b w (cond c (dropped drops (moved n) (w .state) i (w .active)) w))
-      go true c = r
-      go false true = walks-dropped (w .state) i (w .active) (r .kept) l (r .most)
-      go false false = r
-
-  pub walks : (s : State) (m : ℕ) → m ≤ n → P s → W (walked drops (moved n) a s m)
-  unfolding walked
-  walks s zero l r = record { kept = r; most = omega arith }
-  walks s (suc i) l r = walks-visited i (walked drops (moved n) a s i) (omega arith) (walks s i (omega arith) r)
-
--- ---- a pass
+use Rattle.trace.specs.Trace.{lookBy, lookAt}
 
 -- the lists kept, with an active count of n at the most
 pub record Keeps (g : Given) (P : State → Type 0) (w : Full) : Type 0 where
@@ -94,6 +43,14 @@ module _ (g : Given) (m : List ℕ) where
           → i ≡ j → ⊥
       go true e = Nu.pair-rule (problemOf g m) (w .state) (w .run .active) (g .floor) (g .eps) i j e .0 .apart
       go false e = C.pair-rule (problemOf g m) (w .state) (w .run .active) (g .floor) (g .eps) i j e .0 .apart
+
+  -- for what asks of the pair only that it is of two active positions
+  pub pair-keeps : (P : State → Type 0) (b : List Float)
+      → ((s : State) (i j a : ℕ) → i < a → j < a → a ≤ g .n → (i ≡ j → ⊥) → P s → P (updatedState (problemOf g m) b (g .floor) s i j a))
+      → (w : Full) (i j : ℕ) → chosen g m w ≡ Pair i j → Keeps g P w → P (updatedState (problemOf g m) b (g .floor) (w .state) i j (w .run .active))
+  pair-keeps P b on-pair w i j e k =
+      let l = chosen-below g m w i j e in
+      on-pair (w .state) i j (w .run .active) (l .0) (l .1) (k .active) (chosen-apart w i j e) (k .kept)
 
   module _ (P : State → Type 0)
       (on-rebuilt : (s : State) (a : ℕ) → a ≤ g .n → P s → P (over s (reconstructed (problemOf g m) a s)))
@@ -118,7 +75,7 @@ module _ (g : Given) (m : List ℕ) where
     walked-keeps : (l : Limits) (w : Full) → K w → K (walkedFrom g m l w)
     unfolding walkedFrom
     walked-keeps l w k =
-        let r = walks (g .n) P on-moved (dropsAt (g .n) l) (w .run .active) (k .active) (w .state) (w .run .active) (k .active) (k .kept) in
+        let r = walks (g .n) P (moved (g .n)) on-moved (dropsAt (g .n) l) (w .run .active) (k .active) (w .state) (w .run .active) (k .active) (k .kept) in
         record { kept = r .kept; active = omega (arith, r .most, k .active) }
 
     pub shrunk-keeps : (w : Full) → K w → K (shrunk g m w)
@@ -139,22 +96,26 @@ module _ (g : Given) (m : List ℕ) where
         keeps-either (eqb (w .run .iterations) budget && ltb (w .run .active) (g .n)) (withRun (rebuilt g m w) (activeAt (w .run) (g .n))) w
         (record { kept = rebuilt-keeps w k .kept; active = omega arith }) k
 
-    module _ (b : List Float)
-        (on-updated : (s : State) (i j a : ℕ) → i < a → j < a → a ≤ g .n → (i ≡ j → ⊥) → P s → P (updatedState (problemOf g m) b (g .floor) s i j a)) where
-      stepped-keeps : (w : Full) (i j : ℕ) → i < w .run .active → j < w .run .active → (i ≡ j → ⊥) → K w → K (stepped g m b w i j)
-      unfolding stepped
-      stepped-keeps w i j a c d k = record { kept = on-updated (w .state) i j (w .run .active) a c (k .active) d (k .kept); active = k .active }
+    -- where a pass takes its last look
+    pub look-keeps : (v : Full) → K v → K (lookAt g m v)
+    unfolding lookBy
+    look-keeps v k = go (chosen g m v)
+      where
+        go : (c : Choice) → K (lookBy g m v c)
+        go (Pair i j) = k
+        go Optimal = rebuilt-keeps v k
 
+    -- an update from a state w whose choice is i and j keeps it
+    module _ (b : List Float)
+        (on-updated : (w : Full) (i j : ℕ) → chosen g m w ≡ Pair i j → K w → P (updatedState (problemOf g m) b (g .floor) (w .state) i j (w .run .active))) where
       looked-keeps : (w : Full) (c : Choice) → chosen g m w ≡ c → K w → K (looked g m b w c)
-      unfolding looked
-      looked-keeps w (Pair i j) e k =
-          let l = chosen-below g m w i j e in
-          stepped-keeps (withRun w (counterAt (w .run) 1)) i j (l .0) (l .1) (chosen-apart w i j e) (record { kept = k .kept; active = k .active })
+      unfolding looked stepped
+      looked-keeps w (Pair i j) e k = record { kept = on-updated w i j e k; active = k .active }
       looked-keeps w Optimal e k = record { kept = k .kept; active = k .active }
 
       worked-keeps : (w : Full) (c : Choice) → chosen g m w ≡ c → K w → K (workedBy g m b w c)
-      unfolding workedBy
-      worked-keeps w (Pair i j) e k = let l = chosen-below g m w i j e in stepped-keeps w i j (l .0) (l .1) (chosen-apart w i j e) k
+      unfolding workedBy stepped
+      worked-keeps w (Pair i j) e k = record { kept = on-updated w i j e k; active = k .active }
       worked-keeps w Optimal e k = looked-keeps (rebuilt g m w) (chosen g m (rebuilt g m w)) refl (rebuilt-keeps w k)
 
       onward-keeps : (x : Bool) (w : Full) → K w → K (onward g m b x w)

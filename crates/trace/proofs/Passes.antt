@@ -8,15 +8,13 @@ use native.Mathlib.Omega.{arith}
 use lib.Ieee.{Float}
 use Rattle.extreme.specs.declared.Choice.{Choice}
 use Rattle.extreme.specs.declared.Choice.the-variants.{Pair, Optimal}
+use Rattle.partner.proofs.Rule.{not-optimal}
 use Rattle.solver.specs.Pass.{chosen, rebuilt, countedDown, stepped, looked, workedBy, onward, passed}
 use Rattle.solver.specs.Run.{problemOf, Full, goes}
 use Rattle.solver.specs.declared.Given.{Given}
 use Rattle.solver.specs.declared.Status.the-variants.{Done}
 use Rattle.update.specs.Update.{updatedState}
 use Rattle.trace.specs.Trace.{lookBy, lookAt, pairOn, pairFrom}
-
-pub not-optimal : (i j : ℕ) → Optimal ≡ Pair i j → ⊥
-not-optimal i j q = let z : _≡_ {A = ℕ} 0 1 = cc in omega arith
 
 same-pair : (h k i j : ℕ) → Pair h k ≡ Pair i j → (h ≡ i) × (k ≡ j)
 same-pair h k i j q = let x : h ≡ i = cc in let y : k ≡ j = cc in (x, y)

@@ -43,52 +43,49 @@ module _ (lo hi : ℕ) where
 
 -- ---- the start: weights, ceilings and linear terms stay
 
-module _ (p : Problem) (b : List Float) where
-  abbrev Stays : List Float → List Float → Type 0
-  Stays = Same (2 * p .n) (5 * p .n)
-
-  same-laid : (f : List Float) (k : ℕ) → k ≤ p .n → Stays f (laidTo (p .n) f k)
+module _ (p : Problem) (hi : ℕ) where
+  pub same-laid : (f : List Float) (k : ℕ) → k ≤ p .n → Same (2 * p .n) hi f (laidTo (p .n) f k)
   unfolding laidTo
-  same-laid f zero l = same-refl (2 * p .n) (5 * p .n) f
+  same-laid f zero l = same-refl (2 * p .n) hi f
   same-laid f (suc k) l =
       let g = laidTo (p .n) f k in
       let x = getD g (4 * p .n + k) nan in
-      same-trans (2 * p .n) (5 * p .n) f (set g k x) (set (set g k x) (p .n + k) nought)
-      (same-trans (2 * p .n) (5 * p .n) f g (set g k x) (same-laid f k (omega arith)) (same-set (2 * p .n) (5 * p .n) g k x (λ q c d e. omega arith)))
-      (same-set (2 * p .n) (5 * p .n) (set g k x) (p .n + k) nought (λ q c d e. omega arith))
+      same-trans (2 * p .n) hi f (set g k x) (set (set g k x) (p .n + k) nought)
+      (same-trans (2 * p .n) hi f g (set g k x) (same-laid f k (omega arith)) (same-set (2 * p .n) hi g k x (λ q c d e. omega arith)))
+      (same-set (2 * p .n) hi (set g k x) (p .n + k) nought (λ q c d e. omega arith))
 
-  same-diagonal : (f : List Float) (k : ℕ) → Stays f (diagonalTo (p .n) (p .side) (p .matrix) f k)
-  unfolding diagonalTo
-  same-diagonal f zero = same-refl (2 * p .n) (5 * p .n) f
-  same-diagonal f (suc k) =
-      let g = diagonalTo (p .n) (p .side) (p .matrix) f k in
-      same-trans (2 * p .n) (5 * p .n) f g _ (same-diagonal f k) (same-set (2 * p .n) (5 * p .n) g (5 * p .n + k) _ (λ q c d e. omega arith))
-
-  same-joined : (s : State) (i : ℕ) (w : Alpha) → Stays (s .floats) (joinedBy p b s i w)
+  same-joined : (b : List Float) (s : State) (i : ℕ) (w : Alpha) → Same (2 * p .n) hi (s .floats) (joinedBy p b s i w)
   unfolding joinedBy
-  same-joined s i w =
+  same-joined b s i w =
       let f = rowAdded p s 0 (w .value) i 0 (p .n) in
-      let one = same-row (2 * p .n) (5 * p .n) p s 0 (w .value) i 0 (p .n) (λ q h c d l e. omega arith) in
-      let two = same-row (2 * p .n) (5 * p .n) p (state f (s .numbers) (s .labels)) (p .n) (bound b i) i 0 (p .n) (λ q h c d l e. omega arith) in
-      same-either (2 * p .n) (5 * p .n) (s .floats) (s .floats) _ (atLower w) (same-refl (2 * p .n) (5 * p .n) (s .floats))
-      (same-either (2 * p .n) (5 * p .n) (s .floats) _ f (atUpper w) (same-trans (2 * p .n) (5 * p .n) (s .floats) f _ one two) one)
+      let one = same-row (2 * p .n) hi p s 0 (w .value) i 0 (p .n) (λ q h c d l e. omega arith) in
+      let two = same-row (2 * p .n) hi p (state f (s .numbers) (s .labels)) (p .n) (bound b i) i 0 (p .n) (λ q h c d l e. omega arith) in
+      same-either (2 * p .n) hi (s .floats) (s .floats) _ (atLower w) (same-refl (2 * p .n) hi (s .floats))
+      (same-either (2 * p .n) hi (s .floats) _ f (atUpper w) (same-trans (2 * p .n) hi (s .floats) f _ one two) one)
 
-  same-gathered : (s : State) (k : ℕ) → Stays (s .floats) (gatheredTo p b s k)
+  pub same-gathered : (b : List Float) (s : State) (k : ℕ) → Same (2 * p .n) hi (s .floats) (gatheredTo p b s k)
   unfolding gatheredTo
-  same-gathered s zero = same-refl (2 * p .n) (5 * p .n) (s .floats)
-  same-gathered s (suc k) =
+  same-gathered b s zero = same-refl (2 * p .n) hi (s .floats)
+  same-gathered b s (suc k) =
       let f = gatheredTo p b s k in
       let t = state f (s .numbers) (s .labels) in
-      same-trans (2 * p .n) (5 * p .n) (s .floats) f (joined p b t k) (same-gathered s k) (same-joined t k (alpha p t k))
+      same-trans (2 * p .n) hi (s .floats) f (joined p b t k) (same-gathered b s k) (same-joined b t k (alpha p t k))
 
-  pub same-started : (s : State) → Stays (s .floats) (started p b s)
-  unfolding started
-  same-started s =
-      let f = laidTo (p .n) (s .floats) (p .n) in
-      let g = diagonalTo (p .n) (p .side) (p .matrix) f (p .side) in
-      same-trans (2 * p .n) (5 * p .n) (s .floats) g _
-      (same-trans (2 * p .n) (5 * p .n) (s .floats) f g (same-laid (s .floats) (p .n) (omega arith)) (same-diagonal f (p .side)))
-      (same-gathered (state g (s .numbers) (s .labels)) (p .n))
+pub same-diagonal : (p : Problem) (f : List Float) (k : ℕ) → Same (2 * p .n) (5 * p .n) f (diagonalTo (p .n) (p .side) (p .matrix) f k)
+unfolding diagonalTo
+same-diagonal p f zero = same-refl (2 * p .n) (5 * p .n) f
+same-diagonal p f (suc k) =
+    let g = diagonalTo (p .n) (p .side) (p .matrix) f k in
+    same-trans (2 * p .n) (5 * p .n) f g _ (same-diagonal p f k) (same-set (2 * p .n) (5 * p .n) g (5 * p .n + k) _ (λ q c d e. omega arith))
+
+pub same-started : (p : Problem) (b : List Float) (s : State) → Same (2 * p .n) (5 * p .n) (s .floats) (started p b s)
+unfolding started
+same-started p b s =
+    let f = laidTo (p .n) (s .floats) (p .n) in
+    let g = diagonalTo (p .n) (p .side) (p .matrix) f (p .side) in
+    same-trans (2 * p .n) (5 * p .n) (s .floats) g _
+    (same-trans (2 * p .n) (5 * p .n) (s .floats) f g (same-laid p (5 * p .n) (s .floats) (p .n) (omega arith)) (same-diagonal p f (p .side)))
+    (same-gathered p (5 * p .n) b (state g (s .numbers) (s .labels)) (p .n))
 
 -- ---- reconstruction: all but gradients stays
 

@@ -9,12 +9,12 @@ use Rattle.alpha.specs.Weight.{weight}
 use Rattle.readings.specs.Order.{Perm}
 use Rattle.shrink.specs.Drops.{dropsAt, walkedOver}
 use Rattle.shrink.specs.declared.Limits.{Limits}
+use Rattle.shrink.proofs.Walks.{walks}
 use Rattle.state.specs.Fields.{sample}
 use Rattle.state.specs.Lists.{Problem, State, Ready}
 use Rattle.state.specs.Moving.{swappedFields, moved}
 use Rattle.state.proofs.Kept.{ready-moved}
 use Rattle.state.proofs.Moves.{source, source-below, source-twice, swapped-at, fields-at, fields-behind}
-use Rattle.trace.proofs.Kept.{walks}
 use Rattle.travel.specs.Travel.{Travelled, Rearranged}
 use Rattle.travel.proofs.Within.{sample-moved, index-moved}
 
@@ -69,7 +69,7 @@ module _ (p : Problem) where
   -- what a walk does to the lists: one rearrangement of the positions, the same for every field
   pub one-rearrangement : (l : Limits) (a : ℕ) (s : State) → a ≤ p .n → Ready p s → Rearranged p s (walkedOver (p .n) l a s .state)
   one-rearrangement l a s h r =
-      walks (p .n) (λ t. Ready p t × Rearranged p s t)
+      walks (p .n) (λ t. Ready p t × Rearranged p s t) (moved (p .n))
       (λ t i j x y w. (ready-moved (w .0) i j x y, rearranged-moved s t i j x y (w .0) (w .1)))
       (dropsAt (p .n) l) a h s a h (r, rearranged-none s) .kept .1
 

@@ -21,7 +21,7 @@ use Rattle.state.specs.Lists.{Problem, State, Ready}
 use Rattle.state.specs.Moving.{moved}
 use Rattle.state.proofs.Kept.{ready-floats, ready-moved}
 use Rattle.trace.specs.Trace.{lookBy, lookAt, pairFrom, startOf}
-use Rattle.trace.proofs.Kept.{Keeps, rebuilt-keeps, counted-keeps, runs-keeps, trained-keeps}
+use Rattle.trace.proofs.Kept.{Keeps, rebuilt-keeps, counted-keeps, look-keeps, pair-keeps, runs-keeps, trained-keeps}
 use Rattle.trace.proofs.Passes.{look-run, pair-look, pass-steps, pass-ends}
 use Rattle.trace.proofs.Rests.{same-started, same-reconstructed}
 use Rattle.update.specs.Update.{over, updated, updatedState}
@@ -126,25 +126,19 @@ module _ (g : Given) (m : List ℕ) (b : List Float) (labels : ℕ → ℕ) (ter
   pub travelled-runs : (w : Full) (t : ℕ) → w .run .active ≤ g .n → Ready p (w .state) → Travelled (g .n) labels terms (w .state)
       → Travelled (g .n) labels terms (runs g m b w t .state)
   travelled-runs w t h r k =
-      runs-keeps g m S by-rebuilt (settled-moved p labels terms) b by-updated w t
+      runs-keeps g m S by-rebuilt (settled-moved p labels terms) b (pair-keeps g m S b by-updated) w t
       (record { kept = record { ready = r; travelled = k }; active = h }) .kept .travelled
 
   -- and where a pass takes its last look
   pub travelled-look : (w : Full) → w .run .active ≤ g .n → Ready p (w .state) → Travelled (g .n) labels terms (w .state)
       → Travelled (g .n) labels terms (lookAt g m (countedDown g m w) .state)
-  unfolding lookBy
-  travelled-look w h r k = go (chosen g m (countedDown g m w)) .kept .travelled
-    where
-      counted : Keeps g S (countedDown g m w)
-      counted = counted-keeps g m S by-rebuilt (settled-moved p labels terms) w (record { kept = record { ready = r; travelled = k }; active = h })
-
-      go : (c : Choice) → Keeps g S (lookBy g m (countedDown g m w) c)
-      go (Pair i j) = counted
-      go Optimal = rebuilt-keeps g m S by-rebuilt (settled-moved p labels terms) (countedDown g m w) counted
+  travelled-look w h r k =
+      look-keeps g m S by-rebuilt (settled-moved p labels terms) (countedDown g m w)
+      (counted-keeps g m S by-rebuilt (settled-moved p labels terms) w (record { kept = record { ready = r; travelled = k }; active = h })) .kept .travelled
 
   trained-settled : (budget : ℕ) (s : State) → S s → S (trained g m b budget s .state)
   trained-settled budget s k =
-      trained-keeps g m S by-rebuilt (settled-moved p labels terms) b by-updated budget s
+      trained-keeps g m S by-rebuilt (settled-moved p labels terms) b (pair-keeps g m S b by-updated) budget s
       (settled-stays p labels terms s (started p b s) (started-stays p s b) k) .kept
 
 -- from lists as lent, after any number of passes: each sample has the kernel index, the label and the linear term that were lent for it

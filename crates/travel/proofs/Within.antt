@@ -18,7 +18,7 @@ use Rattle.state.specs.Lists.{Problem, State, state, Ready}
 use Rattle.state.specs.Moving.{swappedFields, moved}
 use Rattle.state.proofs.Kept.{ready-floats, ready-moved}
 use Rattle.state.proofs.Moves.{source, source-below, fields-at}
-use Rattle.trace.proofs.Kept.{runs-keeps, trained-keeps}
+use Rattle.trace.proofs.Kept.{pair-keeps, runs-keeps, trained-keeps}
 use Rattle.trace.proofs.Rests.{same-started, same-reconstructed}
 use Rattle.update.specs.Update.{over, updated, updatedState}
 use Rattle.update.proofs.Left.{length-updated}
@@ -68,11 +68,11 @@ module _ (g : Given) (m : List ℕ) (b : List Float) where
 
   -- at each point of a run
   pub runs-numbered : (w : Full) (t : ℕ) → w .run .active ≤ g .n → Numbered p (w .state) → Numbered p (runs g m b w t .state)
-  runs-numbered w t h k = runs-keeps g m (Numbered p) by-rebuilt (numbered-moved p) b by-updated w t (record { kept = k; active = h }) .kept
+  runs-numbered w t h k = runs-keeps g m (Numbered p) by-rebuilt (numbered-moved p) b (pair-keeps g m (Numbered p) b by-updated) w t (record { kept = k; active = h }) .kept
 
   pub trained-numbered : (budget : ℕ) (s : State) → Numbered p s → Numbered p (trained g m b budget s .state)
   trained-numbered budget s k =
-      trained-keeps g m (Numbered p) by-rebuilt (numbered-moved p) b by-updated budget s (numbered-floats p s (started p b s) (same-started p b s .long) k) .kept
+      trained-keeps g m (Numbered p) by-rebuilt (numbered-moved p) b (pair-keeps g m (Numbered p) b by-updated) budget s (numbered-floats p s (started p b s) (same-started p b s .long) k) .kept
 
   -- the order that is left names samples only
   pub trained-within : (budget : ℕ) (s : State) → Ready p s → Paired (g .n) (s .numbers) → g .side ≡ g .n
