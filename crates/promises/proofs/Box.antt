@@ -12,8 +12,9 @@ use Rattle.alpha.specs.Weight as Weight
 use Rattle.answer.specs.Lent as Answer
 use Rattle.boxed.specs.Range.{Ceiling, In, Held, Entry, Divides}
 use Rattle.boxed.proofs.Pairs.{stepAt}
-use Rattle.boxrun.specs.Boxed.{OneCeiling, Lent, Steps}
+use Rattle.boxrun.specs.Boxed.{OneCeiling, Lent}
 use Rattle.boxrun.proofs.Run.{box-weights, no-nan-runs}
+use Rattle.extreme.specs.declared.Choice.the-variants.{Pair}
 use Rattle.fits.proofs.Loaded.{weight-loaded, ceiling-loaded, label-loaded}
 use Rattle.judge.specs.Judge.{first, isCeiling, entryGood, labelGood}
 use Rattle.judge.specs.declared.Judged.the-variants.{Fine}
@@ -22,11 +23,11 @@ use Rattle.judge.proofs.First.{first-fine}
 use Rattle.kernel.specs.Matrix.{Matrix}
 use Rattle.rounding.specs.Units.{Real}
 use Rattle.rounding.proofs.Order.{lt-real, lt→le, le-real}
-use Rattle.solver.specs.Pass.{runs}
-use Rattle.solver.specs.Run.{problemOf, Full}
+use Rattle.solver.specs.Pass.{countedDown, runs}
+use Rattle.solver.specs.Run.{problemOf}
 use Rattle.solver.specs.declared.Given.{Given}
 use Rattle.state.specs.Fields.{alpha}
-use Rattle.trace.specs.Trace.{startOf}
+use Rattle.trace.specs.Trace.{lookAt, pairFrom, startOf}
 use Rattle.wire.specs.Wire.{floatAt, digits}
 use Rattle.promises.specs.Fit.{startFrom}
 use Rattle.promises.proofs.Travel.{ready-start}
@@ -73,7 +74,7 @@ module _ (g : Given) (m l : List ℕ) (c a p : List Float) (budget : ℕ) (d : A
   pub fitted-box : (t k : ℕ) → k < g .n → In b (alpha (problemOf g m) (runs g m c (startOf g m c (startFrom g m l c a p budget d)) t .state) k .value)
   fitted-box = box-weights g m one-ceiling (startFrom g m l c a p budget d) lent
 
-  -- the step of the next pass, where it steps from v with the pair i, j
-  pub fitted-no-nan : (t : ℕ) (v : Full) (i j : ℕ) → Steps g m (runs g m c (startOf g m c (startFrom g m l c a p budget d)) t) v i j
-      → Real (stepAt (problemOf g m) (v .state) (g .floor) i j)
+  -- the step of the pass after those, where it steps with i and j
+  pub fitted-no-nan : (t i j : ℕ) → pairFrom g m (runs g m c (startOf g m c (startFrom g m l c a p budget d)) t) ≡ Pair i j
+      → Real (stepAt (problemOf g m) (lookAt g m (countedDown g m (runs g m c (startOf g m c (startFrom g m l c a p budget d)) t)) .state) (g .floor) i j)
   fitted-no-nan = no-nan-runs g m one-ceiling (startFrom g m l c a p budget d) lent

@@ -17,8 +17,8 @@ use Rattle.answer.specs.declared.Outcome.the-variants.{Accepted}
 use Rattle.boxed.specs.Range.{Ceiling, In}
 use Rattle.boxed.proofs.Pairs.{stepAt}
 use Rattle.boxed.proofs.Step.{floor-divides}
-use Rattle.boxrun.specs.Boxed.{Steps}
 use Rattle.classification.specs.Entries.{givenOf, generalOf, fitCOf}
+use Rattle.extreme.specs.declared.Choice.the-variants.{Pair}
 use Rattle.fits.specs.Starts.{nothing, evenly, costOf, costsTo}
 use Rattle.judge.specs.Judge.{isCeiling, ceilingGood, alphaGood}
 use Rattle.judge.proofs.Accepted.{general-fine, c-fine, alpha-within}
@@ -27,11 +27,11 @@ use Rattle.kernel.specs.declared.Kind.the-variants.{TwoClass}
 use Rattle.rho.specs.Rho.{minusOne}
 use Rattle.rounding.specs.Units.{Real}
 use Rattle.rounding.proofs.Order.{le-refl}
-use Rattle.solver.specs.Pass.{runs}
-use Rattle.solver.specs.Run.{problemOf, Full}
+use Rattle.solver.specs.Pass.{countedDown, runs}
+use Rattle.solver.specs.Run.{problemOf}
 use Rattle.solver.specs.declared.Given.{Given}
 use Rattle.state.specs.Fields.{alpha}
-use Rattle.trace.specs.Trace.{startOf}
+use Rattle.trace.specs.Trace.{lookAt, pairFrom, startOf}
 use Rattle.promises.specs.Fit.{startFrom}
 use Rattle.promises.proofs.Box.{entries-in, labels-in, ceiling-in, weight-in, fitted-box, fitted-no-nan}
 use Rattle.promises.proofs.Entries.{general-served, general-decided, c-served, c-decided}
@@ -64,8 +64,8 @@ module _ (n : ℕ) (m l : List ℕ) (c a p : List Float) (nurule : Bool) (eps : 
       fitted-box given m l c a p budget d refl (v .usable .matrix) (v .room .floats) (v .room .numbers) (v .room .bytes) b (ceiling-in b fit judged-b) same
       (entries-in n m (f .matrix)) floor-divides weight-b (labels-in n l (f .labels))
 
-  pub general-no-nan : (t : ℕ) (w : Full) (i j : ℕ) → Steps given m (runs given m c (startOf given m c (startFrom given m l c a p budget d)) t) w i j
-      → Real (stepAt (problemOf given m) (w .state) (given .floor) i j)
+  pub general-no-nan : (t i j : ℕ) → pairFrom given m (runs given m c (startOf given m c (startFrom given m l c a p budget d)) t) ≡ Pair i j
+      → Real (stepAt (problemOf given m) (lookAt given m (countedDown given m (runs given m c (startOf given m c (startFrom given m l c a p budget d)) t)) .state) (given .floor) i j)
   general-no-nan =
       let v = general-served n m l c a p nurule eps shrinking budget d x e in
       let f = general-fine n m l c a p eps budget (general-decided n m l c a p nurule eps shrinking budget d x e .0) in
@@ -119,8 +119,8 @@ module _ (n : ℕ) (m l : List ℕ) (cost eps : Float) (shrinking : Bool) (budge
       (λ k h. cost-at cost cost l n k most h ∙ same-cost cost (eqb (getD l k 0) 1)) (entries-in n m (f .matrix)) floor-divides
       (λ k h. rw (getD-replicate 512 k Weight.zero nan (omega (arith, most))) (nought-in cost top)) (labels-in n l (f .labels))
 
-  pub c-no-nan : (t : ℕ) (w : Full) (i j : ℕ) → Steps givenC m (runs givenC m costs (startOf givenC m costs (startFrom givenC m l costs nothing (evenly minusOne n) budget d)) t) w i j
-      → Real (stepAt (problemOf givenC m) (w .state) (givenC .floor) i j)
+  pub c-no-nan : (t i j : ℕ) → pairFrom givenC m (runs givenC m costs (startOf givenC m costs (startFrom givenC m l costs nothing (evenly minusOne n) budget d)) t) ≡ Pair i j
+      → Real (stepAt (problemOf givenC m) (lookAt givenC m (countedDown givenC m (runs givenC m costs (startOf givenC m costs (startFrom givenC m l costs nothing (evenly minusOne n) budget d)) t)) .state) (givenC .floor) i j)
   c-no-nan =
       let v = c-served n m l cost cost eps shrinking budget d x e in
       let f = c-fine n m l cost cost eps budget (c-decided n m l cost cost eps shrinking budget d x e .0) in

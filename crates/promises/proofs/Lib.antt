@@ -3,4 +3,5 @@ pub mod Travel
 pub mod Home
 pub mod Box
 pub mod Entries
+pub mod Starts
 pub mod Boxes
