@@ -21,6 +21,7 @@ use Rattle.state.specs.Fields.{gradient, alpha, diagonal, row, positive, bound}
 use Rattle.state.specs.Lists.{Problem, State}
 use Rattle.update.specs.Pair.{curvature, floored, stepOf}
 use Rattle.update.specs.Update.{pairAt}
+use Rattle.boxed.specs.Delta.{deltaAt}
 use Rattle.boxed.specs.Range.{Ceiling, Held, BothHeld, Entry, Divides, Chosen}
 use Rattle.boxed.proofs.Kept.{pair-held}
 use Rattle.boxed.proofs.Step.{curvature-divides, step-real}
@@ -56,11 +57,8 @@ labels-agree (suc zero) (suc (suc y)) h k = let z : ⊥ = omega arith in absurd 
 -- ---- the step of positions i and j, as the update takes it
 
 module _ (p : Problem) (s : State) (floor : Float) (i j : ℕ) where
-  abbrev pub alike : Bool
+  abbrev alike : Bool
   alike = eqb (getD (s .labels) i 0) (getD (s .labels) j 0)
-
-  abbrev pub stepAt : Float
-  stepAt = stepOf alike (gradient p s i) (gradient p s j) (floored floor (curvature alike (diagonal p s i) (diagonal p s j) (row p s i j)))
 
   -- what is asked of the two positions: labels that are 0 or 1, and entries of magnitude 2^1000 at the most
   pub record Plain : Type 0 where
@@ -71,20 +69,20 @@ module _ (p : Problem) (s : State) (floor : Float) (i j : ℕ) where
     pub entry : Entry (row p s i j)
     pub above : Divides floor
 
-  step-real-at : Plain → Chosen (Bool·beq (positive s i) (positive s j)) (gradient p s i) (gradient p s j) → Real stepAt
+  step-real-at : Plain → Chosen (Bool·beq (positive s i) (positive s j)) (gradient p s i) (gradient p s j) → Real (deltaAt p s floor i j)
   step-real-at w h =
       step-real alike (gradient p s i) (gradient p s j) _ (rw (labels-agree (getD (s .labels) i 0) (getD (s .labels) j 0) (w .label-i) (w .label-j)) h)
       (curvature-divides alike (diagonal p s i) (diagonal p s j) (row p s i j) floor (w .diagonal-i) (w .diagonal-j) (w .entry) (w .above))
 
   -- no step of a pair that the choice gives is NaN
-  pub no-nan-c : (eps : Float) (a : ℕ) → Plain → choiceC p s floor eps a ≡ Pair i j → Real stepAt
+  pub no-nan-c : (eps : Float) (a : ℕ) → Plain → choiceC p s floor eps a ≡ Pair i j → Real (deltaAt p s floor i j)
   no-nan-c eps a w e = step-real-at w (chosen-c p s floor eps a i j e)
 
-  pub no-nan-nu : (eps : Float) (a : ℕ) → Plain → choiceNu p s floor eps a ≡ Pair i j → Real stepAt
+  pub no-nan-nu : (eps : Float) (a : ℕ) → Plain → choiceNu p s floor eps a ≡ Pair i j → Real (deltaAt p s floor i j)
   no-nan-nu eps a w e = step-real-at w (chosen-nu p s floor eps a i j e)
 
   -- and under one ceiling such a step leaves both weights in the box
-  pub pair-in-box : (b : Float) (bs : List Float) → Ceiling b → Held b (weight (alpha p s i .value) (bound bs i)) → Held b (weight (alpha p s j .value) (bound bs j)) → Real stepAt
+  pub pair-in-box : (b : Float) (bs : List Float) → Ceiling b → Held b (weight (alpha p s i .value) (bound bs i)) → Held b (weight (alpha p s j .value) (bound bs j)) → Real (deltaAt p s floor i j)
       → BothHeld b (pairAt p bs floor s i j)
   unfolding pairAt
   pair-in-box b bs c hi hj h = pair-held b c _ _ hi hj (gradient p s i) (gradient p s j) (diagonal p s i) (diagonal p s j) (row p s i j) alike floor h

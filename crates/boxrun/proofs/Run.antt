@@ -5,8 +5,9 @@ use mathlib.Core.List.{List}
 use mathlib.Core.Path.{_≡_}
 use native.Mathlib.Omega.{arith}
 use lib.Ieee.{Float}
+use Rattle.boxed.specs.Delta.{deltaAt}
 use Rattle.boxed.specs.Range.{In}
-use Rattle.boxed.proofs.Pairs.{stepAt, no-nan-c, no-nan-nu}
+use Rattle.boxed.proofs.Pairs.{no-nan-c, no-nan-nu}
 use Rattle.choose_c.specs.Choice.{choiceC}
 use Rattle.choose_nu.specs.Choice.{choiceNu}
 use Rattle.extreme.specs.declared.Choice.the-variants.{Pair}
@@ -38,7 +39,7 @@ module _ (g : Given) (m : List ℕ) {b : Float} {bs : List Float} (o : OneCeilin
   B = Boxed b p
 
   -- the step of a pair that is chosen is no NaN
-  step-real : (w : Full) (i j : ℕ) → chosen g m w ≡ Pair i j → Keeps g B w → Real (stepAt p (w .state) (g .floor) i j)
+  step-real : (w : Full) (i j : ℕ) → chosen g m w ≡ Pair i j → Keeps g B w → Real (deltaAt p (w .state) (g .floor) i j)
   unfolding chosen
   step-real w i j e h = go (g .nu) e
     where
@@ -49,7 +50,7 @@ module _ (g : Given) (m : List ℕ) {b : Float} {bs : List Float} (o : OneCeilin
       hj = let q = chosen-below g m w i j e in let a = h .active in omega (arith, q .1)
 
       go : (x : Bool) → cond x (choiceNu p (w .state) (g .floor) (g .eps) (w .run .active)) (choiceC p (w .state) (g .floor) (g .eps) (w .run .active)) ≡ Pair i j
-          → Real (stepAt p (w .state) (g .floor) i j)
+          → Real (deltaAt p (w .state) (g .floor) i j)
       go true q = no-nan-nu p (w .state) (g .floor) i j (g .eps) (w .run .active) (plain o (h .kept) i j hi hj) q
       go false q = no-nan-c p (w .state) (g .floor) i j (g .eps) (w .run .active) (plain o (h .kept) i j hi hj) q
 
@@ -78,7 +79,7 @@ module _ (g : Given) (m : List ℕ) {b : Float} {bs : List Float} (o : OneCeilin
 
   -- no step is NaN: where the pass after t steps with i and j, it steps from its last look
   pub no-nan-runs : (s : State) → Lent b p s → (t i j : ℕ) → pairFrom g m (runs g m bs (startOf g m bs s) t) ≡ Pair i j
-      → Real (stepAt p (lookAt g m (countedDown g m (runs g m bs (startOf g m bs s) t)) .state) (g .floor) i j)
+      → Real (deltaAt p (lookAt g m (countedDown g m (runs g m bs (startOf g m bs s) t)) .state) (g .floor) i j)
   no-nan-runs s h t i j e =
       let w = runs g m bs (startOf g m bs s) t in
       let v = countedDown g m w in

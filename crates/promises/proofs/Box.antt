@@ -9,28 +9,30 @@ use lib.Ieee.{Float, nan, binary64, fits, le, lt}
 use lib.Ieee.Bits.{ofBits-fits}
 use lib.ListN.{length, getD}
 use Rattle.alpha.specs.Weight as Weight
-use Rattle.answer.specs.Lent as Answer
+use Rattle.answer.specs.Lent.{Lent, Whole}
 use Rattle.boxed.specs.Range.{Ceiling, In, Held, Entry, Divides}
-use Rattle.boxed.proofs.Pairs.{stepAt}
-use Rattle.boxrun.specs.Boxed.{OneCeiling, Lent}
-use Rattle.boxrun.proofs.Run.{box-weights, no-nan-runs}
+use Rattle.boxrun.specs.Boxed as Boxed
+use Rattle.boxrun.specs.Boxed.{OneCeiling}
+use Rattle.boxrun.proofs.Run.{box-weights, box-trained, no-nan-runs}
 use Rattle.extreme.specs.declared.Choice.the-variants.{Pair}
 use Rattle.fits.proofs.Loaded.{weight-loaded, ceiling-loaded, label-loaded}
 use Rattle.judge.specs.Judge.{first, isCeiling, entryGood, labelGood}
 use Rattle.judge.specs.declared.Judged.the-variants.{Fine}
 use Rattle.judge.proofs.Accepted.{entry-within, label-within, cost-within}
 use Rattle.judge.proofs.First.{first-fine}
-use Rattle.kernel.specs.Matrix.{Matrix}
 use Rattle.rounding.specs.Units.{Real}
 use Rattle.rounding.proofs.Order.{lt-real, lt→le, le-real}
-use Rattle.solver.specs.Pass.{countedDown, runs}
+use Rattle.readings.specs.Order.{weightIn}
+use Rattle.readings.proofs.Order.{home-at}
+use Rattle.solver.specs.End.{trained}
 use Rattle.solver.specs.Run.{problemOf}
 use Rattle.solver.specs.declared.Given.{Given}
-use Rattle.state.specs.Fields.{alpha}
-use Rattle.trace.specs.Trace.{lookAt, pairFrom, startOf}
+use Rattle.travel.specs.Home.{lastLeft}
+use Rattle.travel.proofs.Home.{trained-home}
+use Rattle.travel.proofs.Travel.{travelled-trained}
 use Rattle.wire.specs.Wire.{floatAt, digits}
-use Rattle.promises.specs.Fit.{startFrom}
-use Rattle.promises.proofs.Travel.{ready-start}
+use Rattle.promises.specs.Fit.{Fit, startFrom, weightAfter, pairAfter, deltaAfter, stepsOf}
+use Rattle.promises.proofs.Travel.{Served, ready-start, fresh-start}
 
 -- ---- what the verdict says of entries, labels and ceilings
 
@@ -53,28 +55,46 @@ weight-in b x f l h = record { number = record { fit = f; real = le-real Weight.
 
 -- ---- the run of an entry
 
-module _ (g : Given) (m l : List ℕ) (c a p : List Float) (budget : ℕ) (d : Answer.Lent) (square : g .side ≡ g .n) (matrix : Matrix (g .n) m) (floats : 7 * g .n ≤ length (d .floats))
-    (numbers : 2 * g .n ≤ length (d .numbers)) (bytes : g .n ≤ length (d .bytes)) (b : Float) (ceiling : Ceiling b) (places : (k : ℕ) → k < g .n → getD c k nan ≡ b)
-    (entries : (k : ℕ) → k < g .n * g .n → Entry (floatAt m (8 * k))) (floor : Divides (g .floor)) (weights : (k : ℕ) → k < g .n → In b (getD a k nan))
-    (labels : (k : ℕ) → k < g .n → getD l k 0 ≤ 1) where
-  one-ceiling : OneCeiling (problemOf g m) (g .floor) b c
-  one-ceiling = record { ceiling = ceiling; places = places; entries = λ k h. entries k (rw square at h); floor-above = floor }
+-- one ceiling b for all places, start weights from 0 to b, and what refusals 3 and 4 leave of the matrix and the labels
+pub record Common (k : Fit) (m : List ℕ) (b : Float) : Type 0 where
+  pub ceiling : Ceiling b
+  pub places : (i : ℕ) → i < k .given .n → getD (k .ceilings) i nan ≡ b
+  pub weights : (i : ℕ) → i < k .given .n → In b (getD (k .weights) i nan)
+  pub entries : (i : ℕ) → i < k .given .n * k .given .n → Entry (floatAt m (8 * i))
+  pub labels : (i : ℕ) → i < k .given .n → getD (k .labels) i 0 ≤ 1
+  pub floor : Divides (k .given .floor)
 
-  lent : Lent b (problemOf g m) (startFrom g m l c a p budget d)
+module _ {k : Fit} {m : List ℕ} {budget : ℕ} {d : Lent} {o : Whole} (v : Served k m budget d o) {b : Float} (c : Common k m b) where
+  abbrev g : Given
+  g = k .given
+
+  one-ceiling : OneCeiling (problemOf g m) (g .floor) b (k .ceilings)
+  one-ceiling = record { ceiling = c .ceiling; places = c .places; entries = λ i h. c .entries i (rw (v .square) at h); floor-above = c .floor }
+
+  lent : Boxed.Lent b (problemOf g m) (startFrom k m d)
   lent = record {
-    ready = ready-start g m l c a p budget d square matrix floats numbers bytes;
-    held = λ k h. record {
-      upper = ceiling-loaded (g .n) c a p (d .floats) floats (g .n) k (omega arith) h ∙ places k h;
-      value = rw (weight-loaded (g .n) c a p (d .floats) floats (g .n) k (omega arith) h) (weights k h);
+    ready = ready-start v;
+    held = λ i h. record {
+      upper = ceiling-loaded (g .n) (k .ceilings) (k .weights) (k .terms) (d .floats) (v .room .floats) (g .n) i (omega arith) h ∙ c .places i h;
+      value = rw (weight-loaded (g .n) (k .ceilings) (k .weights) (k .terms) (d .floats) (v .room .floats) (g .n) i (omega arith) h) (c .weights i h);
     };
-    label = λ k h. rw (label-loaded l (d .bytes) (g .n) k bytes h) (labels k h);
+    label = λ i h. rw (label-loaded (k .labels) (d .bytes) (g .n) i (v .room .bytes) h) (c .labels i h);
   }
 
-  -- after t passes, at position k
-  pub fitted-box : (t k : ℕ) → k < g .n → In b (alpha (problemOf g m) (runs g m c (startOf g m c (startFrom g m l c a p budget d)) t .state) k .value)
-  fitted-box = box-weights g m one-ceiling (startFrom g m l c a p budget d) lent
+  -- after t passes, at position i
+  pub served-box : (t i : ℕ) → i < g .n → In b (weightAfter k m d t i)
+  served-box = box-weights g m one-ceiling (startFrom k m d) lent
 
-  -- the step of the pass after those, where it steps with i and j
-  pub fitted-no-nan : (t i j : ℕ) → pairFrom g m (runs g m c (startOf g m c (startFrom g m l c a p budget d)) t) ≡ Pair i j
-      → Real (stepAt (problemOf g m) (lookAt g m (countedDown g m (runs g m c (startOf g m c (startFrom g m l c a p budget d)) t)) .state) (g .floor) i j)
-  fitted-no-nan = no-nan-runs g m one-ceiling (startFrom g m l c a p budget d) lent
+  -- where the next pass steps with i and j
+  pub served-no-nan : (t i j : ℕ) → pairAfter k m d t ≡ Pair i j → Real (deltaAfter k m d t i j)
+  served-no-nan = no-nan-runs g m one-ceiling (startFrom k m d) lent
+
+  -- and at home, before sign and scaling: the weight of each sample
+  pub served-home-box : (s : ℕ) → s < g .n → In b (lastLeft (stepsOf k m d budget) s (getD (k .weights) s nan))
+  served-home-box s h =
+      let w = trained g m (k .ceilings) budget (startFrom k m d) in
+      let q = travelled-trained g m (k .ceilings) budget (startFrom k m d) (ready-start v) (fresh-start v) .order in
+      rw (sym (weight-loaded (g .n) (k .ceilings) (k .weights) (k .terms) (d .floats) (v .room .floats) (g .n) s (omega arith) h),
+      sym (trained-home g m (k .ceilings) budget (startFrom k m d) (ready-start v) (fresh-start v) (d .home) (v .room .home) s h),
+      home-at nan (w .state .numbers) (weightIn (g .n) (w .state .floats)) (d .home) (g .n) s (v .room .home) q h)
+      (box-trained g m one-ceiling (startFrom k m d) lent budget (q .place s) (q .inside s h))

@@ -1,96 +1,79 @@
--- The box of the general entry with equal ceilings, and of the C entry with equal costs. Assumes nothing.
-use Prim.Native.Nat.{ℕ, zero, suc, _*_, _≤_, _<_}
+-- The box of each entry: general with equal ceilings, C with equal costs, nu and one-class under 1. That a float lent fits its format is asked: every
+-- f64 does. Assumes nothing.
+use Prim.Native.Nat.{ℕ, _≤_, _<_}
 use mathlib.Core.Bool.{Bool, true, false, cond}
 use mathlib.Core.List.{List}
-use mathlib.Core.Path.{_≡_, refl, sym, ap, _∙_}
-use native.Mathlib.Decide.{ℕ-discrete}
+use mathlib.Core.Path.{_≡_, refl, _∙_}
 use native.Mathlib.Omega.{arith}
 use lib.Dec.{T, eqb}
 use lib.Ieee.{Float, nan, binary64, ofBits, fits, isNan, le}
 use lib.Ieee.Bits.{ofBits-fits}
-use lib.ListN.{length, getD, set, length-set, length-replicate, getD-replicate}
-use lib.Seq.{getD-set-same, getD-set-other}
+use lib.ListN.{length, getD, replicate, length-replicate, getD-replicate}
 use Rattle.alpha.specs.Weight as Weight
 use Rattle.answer.specs.Lent.{Lent}
 use Rattle.answer.specs.declared.Answer.{Answer}
 use Rattle.answer.specs.declared.Outcome.the-variants.{Accepted}
 use Rattle.boxed.specs.Range.{Ceiling, In}
-use Rattle.boxed.proofs.Pairs.{stepAt}
 use Rattle.boxed.proofs.Step.{floor-divides}
-use Rattle.classification.specs.Entries.{givenOf, generalOf, fitCOf}
+use Rattle.classification.specs.Entries.{generalOf, fitCOf, fitNuOf, fitOneClassOf}
 use Rattle.extreme.specs.declared.Choice.the-variants.{Pair}
-use Rattle.fits.specs.Starts.{nothing, evenly, costOf, costsTo}
+use Rattle.fits.specs.Starts.{nothing, evenly, costOf, costsTo, half, sharedTo, oneClassTo}
 use Rattle.judge.specs.Judge.{isCeiling, ceilingGood, alphaGood}
-use Rattle.judge.proofs.Accepted.{general-fine, c-fine, alpha-within}
+use Rattle.judge.proofs.Accepted.{general-fine, c-fine, nu-fine, one-class-fine, alpha-within, nu-within}
 use Rattle.judge.proofs.First.{first-fine}
-use Rattle.kernel.specs.declared.Kind.the-variants.{TwoClass}
-use Rattle.rho.specs.Rho.{minusOne}
+use Rattle.lists.proofs.Prefix.{prefix-at, filled-at}
+use Rattle.rho.specs.Rho.{one}
 use Rattle.rounding.specs.Units.{Real}
 use Rattle.rounding.proofs.Order.{le-refl}
-use Rattle.solver.specs.Pass.{countedDown, runs}
-use Rattle.solver.specs.Run.{problemOf}
-use Rattle.solver.specs.declared.Given.{Given}
-use Rattle.state.specs.Fields.{alpha}
-use Rattle.trace.specs.Trace.{lookAt, pairFrom, startOf}
-use Rattle.promises.specs.Fit.{startFrom}
-use Rattle.promises.proofs.Box.{entries-in, labels-in, ceiling-in, weight-in, fitted-box, fitted-no-nan}
-use Rattle.promises.proofs.Entries.{general-served, general-decided, c-served, c-decided}
+use Rattle.travel.specs.Home.{lastLeft}
+use Rattle.promises.specs.Fit.{generalFit, cFit, nuFit, oneClassFit, weightAfter, pairAfter, deltaAfter, stepsOf}
+use Rattle.promises.proofs.Box.{Common, entries-in, labels-in, ceiling-in, weight-in, served-box, served-no-nan, served-home-box}
+use Rattle.promises.proofs.Entries.{general-judged, general-served, c-judged, c-served, nu-judged, nu-served, one-class-judged, one-class-served}
+use Rattle.promises.proofs.Starts.{ceiling-one, nu-start, one-class-start}
 
 -- ---- general: every lent ceiling is b
 
 module _ (n : ℕ) (m l : List ℕ) (c a p : List Float) (nurule : Bool) (eps : Float) (shrinking : Bool) (budget : ℕ) (d : Lent) (x : Answer)
-    (e : generalOf n m l c a p nurule eps shrinking budget d .out ≡ Accepted x) (b : Float) (fit : T (fits binary64 b)) (same : (k : ℕ) → k < n → getD c k nan ≡ b)
-    (fit-a : (k : ℕ) → k < n → T (fits binary64 (getD a k nan))) where
-  abbrev given : Given
-  given = givenOf n TwoClass eps shrinking nurule
-
+    (e : generalOf n m l c a p nurule eps shrinking budget d .out ≡ Accepted x) (b : Float) (fit : T (fits binary64 b)) (same : (i : ℕ) → i < n → getD c i nan ≡ b)
+    (fit-a : (i : ℕ) → i < n → T (fits binary64 (getD a i nan))) where
   judged-b : isCeiling b ≡ true
   unfolding ceilingGood
   judged-b =
-      let v = general-served n m l c a p nurule eps shrinking budget d x e in
-      let f = general-fine n m l c a p eps budget (general-decided n m l c a p nurule eps shrinking budget d x e .0) in
-      rw (same 0 (v .room .some)) at (first-fine 5 (ceilingGood c) n 0 (f .ceilings) 0 (omega arith) (omega (arith, v .room .some)))
+      let some = general-served n m l c a p nurule eps shrinking budget d x e .room .some in
+      let f = general-fine n m l c a p eps budget (general-judged n m l c a p nurule eps shrinking budget d x e) in
+      rw (same 0 some) at (first-fine 5 (ceilingGood c) n 0 (f .ceilings) 0 (omega arith) (omega (arith, some)))
 
-  weight-b : (k : ℕ) → k < n → In b (getD a k nan)
-  weight-b k h =
-      let f = general-fine n m l c a p eps budget (general-decided n m l c a p nurule eps shrinking budget d x e .0) in
-      let w = alpha-within a c k (first-fine 6 (alphaGood a c) n 0 (f .alphas) k (omega arith) (omega arith)) in
-      weight-in b (getD a k nan) (fit-a k h) (w .0) (rw (same k h) at (w .1))
+  general-common : Common (generalFit n l c a p nurule eps shrinking) m b
+  general-common =
+      let f = general-fine n m l c a p eps budget (general-judged n m l c a p nurule eps shrinking budget d x e) in
+      record {
+        ceiling = ceiling-in b fit judged-b;
+        places = same;
+        weights = λ i h.
+            let w = alpha-within a c i (first-fine 6 (alphaGood a c) n 0 (f .alphas) i (omega arith) (omega arith)) in
+            weight-in b (getD a i nan) (fit-a i h) (w .0) (rw (same i h) at (w .1));
+        entries = entries-in n m (f .matrix);
+        labels = labels-in n l (f .labels);
+        floor = floor-divides;
+      }
 
-  pub general-box : (t k : ℕ) → k < n → In b (alpha (problemOf given m) (runs given m c (startOf given m c (startFrom given m l c a p budget d)) t .state) k .value)
-  general-box =
-      let v = general-served n m l c a p nurule eps shrinking budget d x e in
-      let f = general-fine n m l c a p eps budget (general-decided n m l c a p nurule eps shrinking budget d x e .0) in
-      fitted-box given m l c a p budget d refl (v .usable .matrix) (v .room .floats) (v .room .numbers) (v .room .bytes) b (ceiling-in b fit judged-b) same
-      (entries-in n m (f .matrix)) floor-divides weight-b (labels-in n l (f .labels))
+  pub general-box : (t i : ℕ) → i < n → In b (weightAfter (generalFit n l c a p nurule eps shrinking) m d t i)
+  general-box = served-box (general-served n m l c a p nurule eps shrinking budget d x e) general-common
 
-  pub general-no-nan : (t i j : ℕ) → pairFrom given m (runs given m c (startOf given m c (startFrom given m l c a p budget d)) t) ≡ Pair i j
-      → Real (stepAt (problemOf given m) (lookAt given m (countedDown given m (runs given m c (startOf given m c (startFrom given m l c a p budget d)) t)) .state) (given .floor) i j)
-  general-no-nan =
-      let v = general-served n m l c a p nurule eps shrinking budget d x e in
-      let f = general-fine n m l c a p eps budget (general-decided n m l c a p nurule eps shrinking budget d x e .0) in
-      fitted-no-nan given m l c a p budget d refl (v .usable .matrix) (v .room .floats) (v .room .numbers) (v .room .bytes) b (ceiling-in b fit judged-b) same
-      (entries-in n m (f .matrix)) floor-divides weight-b (labels-in n l (f .labels))
+  pub general-no-nan : (t i j : ℕ) → pairAfter (generalFit n l c a p nurule eps shrinking) m d t ≡ Pair i j
+      → Real (deltaAfter (generalFit n l c a p nurule eps shrinking) m d t i j)
+  general-no-nan = served-no-nan (general-served n m l c a p nurule eps shrinking budget d x e) general-common
+
+  -- the weight behind what home answers for sample s
+  pub general-home-box : (s : ℕ) → s < n → In b (lastLeft (stepsOf (generalFit n l c a p nurule eps shrinking) m d budget) s (getD a s nan))
+  general-home-box = served-home-box (general-served n m l c a p nurule eps shrinking budget d x e) general-common
 
 -- ---- C: one cost for both labels
 
-module _ (cpos cneg : Float) (l : List ℕ) where
-  length-costs : (k : ℕ) → length (costsTo cpos cneg l nothing k) ≡ 512
-  unfolding costsTo
-  length-costs zero = length-replicate 512 Weight.zero
-  length-costs (suc k) = simp length-set (length-costs k)
-
-  cost-at : (k j : ℕ) → k ≤ 512 → j < k → getD (costsTo cpos cneg l nothing k) j nan ≡ costOf cpos cneg (getD l j 0)
-  unfolding costsTo
-  cost-at zero j b h = absurd (omega arith)
-  cost-at (suc k) j b h = go (cost-at k j (omega arith)) (ℕ-discrete j k)
-    where
-      t : List Float
-      t = costsTo cpos cneg l nothing k
-
-      go : (j < k → getD t j nan ≡ costOf cpos cneg (getD l j 0)) → Dec (j ≡ k) → getD (set t k (costOf cpos cneg (getD l k 0))) j nan ≡ costOf cpos cneg (getD l j 0)
-      go ih (yes q) = rw q (getD-set-same t k (costOf cpos cneg (getD l k 0)) nan (rw (length-costs k) b))
-      go ih (no q) = getD-set-other t k j (costOf cpos cneg (getD l k 0)) nan q ∙ ih (omega arith)
+cost-at : (cpos cneg : Float) (l : List ℕ) (n i : ℕ) → n ≤ 512 → i < n → getD (costsTo cpos cneg l nothing n) i nan ≡ costOf cpos cneg (getD l i 0)
+unfolding costsTo
+cost-at cpos cneg l n i b h =
+    prefix-at nan (costsTo cpos cneg l nothing) (λ k. costOf cpos cneg (getD l k 0)) (λ k. refl) n i (rw (length-replicate 512 Weight.zero) b) h
 
 same-cost : (c : Float) (b : Bool) → cond b c c ≡ c
 same-cost c true = refl
@@ -102,30 +85,83 @@ nought-in b h = weight-in b Weight.zero (ofBits-fits binary64 0) (le-refl Weight
 
 module _ (n : ℕ) (m l : List ℕ) (cost eps : Float) (shrinking : Bool) (budget : ℕ) (d : Lent) (x : Answer) (e : fitCOf n m l cost cost eps shrinking budget d .out ≡ Accepted x)
     (fit : T (fits binary64 cost)) where
-  abbrev givenC : Given
-  givenC = givenOf n TwoClass eps shrinking false
-
-  abbrev costs : List Float
-  costs = costsTo cost cost l nothing n
-
-  pub c-box : (t k : ℕ) → k < n
-      → In cost (alpha (problemOf givenC m) (runs givenC m costs (startOf givenC m costs (startFrom givenC m l costs nothing (evenly minusOne n) budget d)) t .state) k .value)
-  c-box =
-      let v = c-served n m l cost cost eps shrinking budget d x e in
-      let f = c-fine n m l cost cost eps budget (c-decided n m l cost cost eps shrinking budget d x e .0) in
+  c-common : Common (cFit n l cost cost eps shrinking) m cost
+  c-common =
+      let f = c-fine n m l cost cost eps budget (c-judged n m l cost cost eps shrinking budget d x e) in
+      let most = c-served n m l cost cost eps shrinking budget d x e .room .most in
       let top = ceiling-in cost fit (f .cpos-good) in
-      let most = v .room .most in
-      fitted-box givenC m l costs nothing (evenly minusOne n) budget d refl (v .usable .matrix) (v .room .floats) (v .room .numbers) (v .room .bytes) cost top
-      (λ k h. cost-at cost cost l n k most h ∙ same-cost cost (eqb (getD l k 0) 1)) (entries-in n m (f .matrix)) floor-divides
-      (λ k h. rw (getD-replicate 512 k Weight.zero nan (omega (arith, most))) (nought-in cost top)) (labels-in n l (f .labels))
+      record {
+        ceiling = top;
+        places = λ i h. cost-at cost cost l n i most h ∙ same-cost cost (eqb (getD l i 0) 1);
+        weights = λ i h. rw (getD-replicate 512 i Weight.zero nan (omega (arith, most))) (nought-in cost top);
+        entries = entries-in n m (f .matrix);
+        labels = labels-in n l (f .labels);
+        floor = floor-divides;
+      }
 
-  pub c-no-nan : (t i j : ℕ) → pairFrom givenC m (runs givenC m costs (startOf givenC m costs (startFrom givenC m l costs nothing (evenly minusOne n) budget d)) t) ≡ Pair i j
-      → Real (stepAt (problemOf givenC m) (lookAt givenC m (countedDown givenC m (runs givenC m costs (startOf givenC m costs (startFrom givenC m l costs nothing (evenly minusOne n) budget d)) t)) .state) (givenC .floor) i j)
-  c-no-nan =
-      let v = c-served n m l cost cost eps shrinking budget d x e in
-      let f = c-fine n m l cost cost eps budget (c-decided n m l cost cost eps shrinking budget d x e .0) in
-      let top = ceiling-in cost fit (f .cpos-good) in
-      let most = v .room .most in
-      fitted-no-nan givenC m l costs nothing (evenly minusOne n) budget d refl (v .usable .matrix) (v .room .floats) (v .room .numbers) (v .room .bytes) cost top
-      (λ k h. cost-at cost cost l n k most h ∙ same-cost cost (eqb (getD l k 0) 1)) (entries-in n m (f .matrix)) floor-divides
-      (λ k h. rw (getD-replicate 512 k Weight.zero nan (omega (arith, most))) (nought-in cost top)) (labels-in n l (f .labels))
+  pub c-box : (t i : ℕ) → i < n → In cost (weightAfter (cFit n l cost cost eps shrinking) m d t i)
+  c-box = served-box (c-served n m l cost cost eps shrinking budget d x e) c-common
+
+  pub c-no-nan : (t i j : ℕ) → pairAfter (cFit n l cost cost eps shrinking) m d t ≡ Pair i j → Real (deltaAfter (cFit n l cost cost eps shrinking) m d t i j)
+  c-no-nan = served-no-nan (c-served n m l cost cost eps shrinking budget d x e) c-common
+
+  -- the weight behind what home answers for sample s
+  pub c-home-box : (s : ℕ) → s < n → In cost (lastLeft (stepsOf (cFit n l cost cost eps shrinking) m d budget) s (getD nothing s nan))
+  c-home-box = served-home-box (c-served n m l cost cost eps shrinking budget d x e) c-common
+
+-- ---- nu and one-class: every ceiling is 1
+
+ones : (n i : ℕ) → n ≤ 512 → i < n → getD (evenly one n) i nan ≡ one
+ones n i b h = filled-at nan one nothing n i (rw (length-replicate 512 Weight.zero) b) h
+
+module _ (n : ℕ) (m l : List ℕ) (nu eps : Float) (shrinking : Bool) (budget : ℕ) (d : Lent) (x : Answer) (e : fitNuOf n m l nu eps shrinking budget d .out ≡ Accepted x)
+    (fit : T (fits binary64 nu)) where
+  nu-common : Common (nuFit n l nu eps shrinking) m one
+  nu-common =
+      let f = nu-fine n m l nu eps budget (nu-judged n m l nu eps shrinking budget d x e) in
+      let r = nu-served n m l nu eps shrinking budget d x e .room in
+      let w = nu-within nu (f .nu-good) in
+      record {
+        ceiling = ceiling-one;
+        places = λ i h. ones n i (r .most) h;
+        weights = nu-start nu fit (w .0) (w .1) n (r .some) (r .most) l;
+        entries = entries-in n m (f .matrix);
+        labels = labels-in n l (f .labels);
+        floor = floor-divides;
+      }
+
+  pub nu-box : (t i : ℕ) → i < n → In one (weightAfter (nuFit n l nu eps shrinking) m d t i)
+  nu-box = served-box (nu-served n m l nu eps shrinking budget d x e) nu-common
+
+  pub nu-no-nan : (t i j : ℕ) → pairAfter (nuFit n l nu eps shrinking) m d t ≡ Pair i j → Real (deltaAfter (nuFit n l nu eps shrinking) m d t i j)
+  nu-no-nan = served-no-nan (nu-served n m l nu eps shrinking budget d x e) nu-common
+
+  -- the weight behind what home answers for sample s
+  pub nu-home-box : (s : ℕ) → s < n → In one (lastLeft (stepsOf (nuFit n l nu eps shrinking) m d budget) s (getD (sharedTo (half nu n) l nothing n) s nan))
+  nu-home-box = served-home-box (nu-served n m l nu eps shrinking budget d x e) nu-common
+
+module _ (n : ℕ) (m : List ℕ) (nu eps : Float) (shrinking : Bool) (budget : ℕ) (d : Lent) (x : Answer) (e : fitOneClassOf n m nu eps shrinking budget d .out ≡ Accepted x)
+    (fit : T (fits binary64 nu)) where
+  one-class-common : Common (oneClassFit n nu eps shrinking) m one
+  one-class-common =
+      let f = one-class-fine n m nu eps budget (one-class-judged n m nu eps shrinking budget d x e) in
+      let r = one-class-served n m nu eps shrinking budget d x e .room in
+      let w = nu-within nu (f .nu-good) in
+      record {
+        ceiling = ceiling-one;
+        places = λ i h. ones n i (r .most) h;
+        weights = one-class-start nu fit (w .0) (w .1) n (r .some) (r .most);
+        entries = entries-in n m (f .matrix);
+        labels = λ i h. rw (filled-at {A = ℕ} 0 1 (replicate 512 0) n i (rw (length-replicate {A = ℕ} 512 0) (r .most)) h) (omega arith);
+        floor = floor-divides;
+      }
+
+  pub one-class-box : (t i : ℕ) → i < n → In one (weightAfter (oneClassFit n nu eps shrinking) m d t i)
+  one-class-box = served-box (one-class-served n m nu eps shrinking budget d x e) one-class-common
+
+  pub one-class-no-nan : (t i j : ℕ) → pairAfter (oneClassFit n nu eps shrinking) m d t ≡ Pair i j → Real (deltaAfter (oneClassFit n nu eps shrinking) m d t i j)
+  one-class-no-nan = served-no-nan (one-class-served n m nu eps shrinking budget d x e) one-class-common
+
+  -- the weight behind what home answers for sample s
+  pub one-class-home-box : (s : ℕ) → s < n → In one (lastLeft (stepsOf (oneClassFit n nu eps shrinking) m d budget) s (getD (oneClassTo nu n nothing n) s nan))
+  one-class-home-box = served-home-box (one-class-served n m nu eps shrinking budget d x e) one-class-common

@@ -9,23 +9,23 @@ use lib.Ieee.{Float, nan}
 use lib.ListN.{length, getD, set, length-set}
 use lib.Seq.{getD-set-same, getD-set-other}
 use Rattle.answer.specs.Answer.{coefficientOf, finishedTo}
-use Rattle.answer.specs.Lent.{Lent}
-use Rattle.answer.specs.Solved.{stuck, levelAt, homeOf, settledBy, solved}
+use Rattle.answer.specs.Lent.{Lent, Whole}
+use Rattle.answer.specs.Solved as Solved
+use Rattle.answer.specs.Solved.{stuck, levelAt, settledBy, solved}
 use Rattle.answer.specs.declared.Answer.{Answer}
 use Rattle.answer.specs.declared.Finish.{Finish}
 use Rattle.answer.specs.declared.Outcome.the-variants.{Accepted}
 use Rattle.classification.specs.Entries.{fitted}
 use Rattle.fits.proofs.Loaded.{weight-loaded}
-use Rattle.kernel.specs.Matrix.{Matrix}
 use Rattle.readings.specs.Order.{homeReading, weightIn}
 use Rattle.readings.proofs.Order.{length-scattered}
 use Rattle.solver.specs.Run.{Full}
 use Rattle.solver.specs.declared.Given.{Given}
 use Rattle.travel.specs.Home.{lastLeft}
 use Rattle.travel.proofs.Home.{trained-home}
-use Rattle.promises.specs.Fit.{startFrom, runOf, stepsOf, rOf}
+use Rattle.promises.specs.Fit.{Fit, startFrom, runOf, stepsOf, rOf, homeOf}
 use Rattle.promises.proofs.Accepts.{refused-apart}
-use Rattle.promises.proofs.Travel.{ready-start, fresh-start}
+use Rattle.promises.proofs.Travel.{Served, ready-start, fresh-start}
 
 -- ---- a finished list
 
@@ -61,31 +61,39 @@ module _ (how : Finish) (l : List ℕ) (r : Float) (d : List Float) where
 -- ---- what a fit hands out
 
 settled-home : (b : Bool) (g : Given) (how : Finish) (l : List ℕ) (budget : ℕ) (w : Full) (c h : List Float) (x : Answer)
-    → settledBy b g how l budget w c h .out ≡ Accepted x → settledBy b g how l budget w c h .home ≡ homeOf g how l w (levelAt g w) h
+    → settledBy b g how l budget w c h .out ≡ Accepted x → settledBy b g how l budget w c h .home ≡ Solved.homeOf g how l w (levelAt g w) h
 unfolding settledBy
 settled-home true g how l budget w c h x e = absurd (refused-apart 11 0 x e)
 settled-home false g how l budget w c h x e = refl
 
-module _ (g : Given) (how : Finish) (m l : List ℕ) (c a p : List Float) (budget : ℕ) (d : Lent) where
-  fitted-list : (x : Answer) → fitted g how m l c a p budget d .out ≡ Accepted x
-      → fitted g how m l c a p budget d .left .home ≡ homeOf g how l (runOf g m l c a p budget d) (levelAt g (runOf g m l c a p budget d)) (d .home)
-  unfolding fitted solved
-  fitted-list x e = settled-home (stuck (runOf g m l c a p budget d .run .status)) g how l budget (runOf g m l c a p budget d) (d .crate) (d .home) x e
+module _ {k : Fit} {m : List ℕ} {budget : ℕ} {d : Lent} {o : Whole} (v : Served k m budget d o) (x : Answer) (e : o .out ≡ Accepted x) where
+  abbrev g : Given
+  g = k .given
 
-  -- g asks for one column for each sample; the lists are as long as the sizes ask
-  module _ (square : g .side ≡ g .n) (matrix : Matrix (g .n) m) (floats : 7 * g .n ≤ length (d .floats)) (numbers : 2 * g .n ≤ length (d .numbers)) (bytes : g .n ≤ length (d .bytes))
-      (home : g .n ≤ length (d .home)) where
-    pub fitted-home : (x : Answer) → fitted g how m l c a p budget d .out ≡ Accepted x → (s : ℕ) → s < g .n
-        → getD (fitted g how m l c a p budget d .left .home) s nan
-        ≡ coefficientOf how (getD l s 0) (rOf g m l c a p budget d) (lastLeft (stepsOf g m l c a p budget d) s (getD a s nan))
-    unfolding homeOf
-    fitted-home x e s h =
-        let w = runOf g m l c a p budget d in
-        let ready = ready-start g m l c a p budget d square matrix floats numbers bytes in
-        let fresh = fresh-start g m l c a p budget d square matrix floats numbers bytes in
-        let z = homeReading (g .n) (w .state .numbers) (weightIn (g .n) (w .state .floats)) (d .home) in
-        ap (λ (t : List Float). getD t s nan) (fitted-list x e)
-        ∙ finished-at how l (rOf g m l c a p budget d) z (g .n) s (rw (length-scattered (w .state .numbers) (weightIn (g .n) (w .state .floats)) (d .home) (g .n)) home) h
-        ∙ ap (coefficientOf how (getD l s 0) (rOf g m l c a p budget d))
-        (trained-home g m c budget (startFrom g m l c a p budget d) ready fresh (d .home) home s h
-        ∙ ap (lastLeft (stepsOf g m l c a p budget d) s) (weight-loaded (g .n) c a p (d .floats) floats (g .n) s (omega arith) h))
+  abbrev w : Full
+  w = runOf k m d budget
+
+  abbrev weights : ℕ → Float
+  weights = weightIn (g .n) (w .state .floats)
+
+  -- the home list that it answers: the home reading of what the run left, signed and divided
+  served-list : o .left .home ≡ Solved.homeOf g (k .how) (k .labels) w (levelAt g w) (d .home)
+  unfolding fitted solved
+  served-list =
+      ap (λ (q : Whole). q .left .home) (v .same)
+      ∙ settled-home (stuck (w .run .status)) g (k .how) (k .labels) budget w (d .crate) (d .home) x (sym (ap (λ (q : Whole). q .out) (v .same)) ∙ e)
+
+  served-at : (s : ℕ) → s < g .n
+      → getD (o .left .home) s nan ≡ coefficientOf (k .how) (getD (k .labels) s 0) (rOf k m d budget) (getD (homeReading (g .n) (w .state .numbers) weights (d .home)) s nan)
+  unfolding Solved.homeOf
+  served-at s h =
+      ap (λ (t : List Float). getD t s nan) served-list
+      ∙ finished-at (k .how) (k .labels) (rOf k m d budget) (homeReading (g .n) (w .state .numbers) weights (d .home)) (g .n) s
+      (rw (length-scattered (w .state .numbers) weights (d .home) (g .n)) (v .room .home)) h
+
+  pub served-home : (s : ℕ) → s < g .n → getD (o .left .home) s nan ≡ homeOf k m d budget s
+  served-home s h =
+      served-at s h
+      ∙ ap (coefficientOf (k .how) (getD (k .labels) s 0) (rOf k m d budget))
+      (trained-home g m (k .ceilings) budget (startFrom k m d) (ready-start v) (fresh-start v) (d .home) (v .room .home) s h
+      ∙ ap (lastLeft (stepsOf k m d budget) s) (weight-loaded (g .n) (k .ceilings) (k .weights) (k .terms) (d .floats) (v .room .floats) (g .n) s (omega arith) h))

@@ -1,42 +1,54 @@
--- Travel, of an entry: at each point of its run the order names every sample once, and kernel index, label and linear term at a place are its
--- sample's. Assumes nothing.
-use Prim.Native.Nat.{ℕ, _*_, _≤_, _<_}
+-- What an entry has shown where it accepts; and travel: at each point of its run the order names every sample once, and kernel index, label and
+-- linear term at a place are its sample's. Assumes nothing.
+use Prim.Native.Nat.{ℕ, _<_}
 use mathlib.Core.List.{List}
-use mathlib.Core.Path.{_≡_, refl, sym, ap, _∙_}
+use mathlib.Core.Path.{_≡_, _∙_}
 use native.Mathlib.Omega.{arith}
-use lib.Ieee.{Float, nan}
+use lib.Ieee.{nan}
 use lib.ListN.{length, getD}
-use Rattle.answer.specs.Lent.{Lent}
-use Rattle.classification.specs.Entries.{scratchOf}
+use Rattle.answer.specs.Lent.{Lent, Whole}
+use Rattle.classification.specs.Entries.{scratchOf, fitted}
+use Rattle.classification.proofs.Laws.{Usable}
 use Rattle.fits.proofs.Loaded.{ready-loaded, sample-loaded, index-loaded, label-loaded, linear-loaded}
-use Rattle.kernel.specs.Matrix.{Matrix}
-use Rattle.solver.specs.Pass.{runs}
+use Rattle.judge.specs.Sizes.{Room}
 use Rattle.solver.specs.Run.{problemOf}
 use Rattle.solver.specs.declared.Given.{Given}
 use Rattle.state.specs.Fields.{sample}
-use Rattle.state.specs.Lists.{State, Ready}
-use Rattle.trace.specs.Trace.{startOf}
+use Rattle.state.specs.Lists.{Ready}
 use Rattle.travel.specs.Travel.{Fresh, Travelled}
 use Rattle.travel.proofs.Travel.{travelled-from}
-use Rattle.promises.specs.Fit.{startFrom}
+use Rattle.promises.specs.Fit.{Fit, startFrom, after}
 
-module _ (g : Given) (m l : List ℕ) (c a p : List Float) (budget : ℕ) (d : Lent) (square : g .side ≡ g .n) (matrix : Matrix (g .n) m) (floats : 7 * g .n ≤ length (d .floats))
-    (numbers : 2 * g .n ≤ length (d .numbers)) (bytes : g .n ≤ length (d .bytes)) where
-  pub ready-start : Ready (problemOf g m) (startFrom g m l c a p budget d)
-  ready-start = rw square (ready-loaded (g .n) (g .kind) m l c a p (scratchOf d) matrix floats numbers bytes)
+-- the outcome o is that of the fit, over lists that suffice
+pub record Served (k : Fit) (m : List ℕ) (budget : ℕ) (d : Lent) (o : Whole) : Type 0 where
+  pub square : k .given .side ≡ k .given .n
+  pub room : Room (k .given .n) (length m) (length (d .crate)) (length (d .home)) (length (d .floats)) (length (d .numbers)) (length (d .bytes))
+  pub usable : Usable (k .given .n) m budget
+  pub same : o ≡ fitted (k .given) (k .how) m (k .labels) (k .ceilings) (k .weights) (k .terms) budget d
 
-  pub fresh-start : Fresh (g .n) (startFrom g m l c a p budget d)
+module _ {k : Fit} {m : List ℕ} {budget : ℕ} {d : Lent} {o : Whole} (v : Served k m budget d o) where
+  abbrev g : Given
+  g = k .given
+
+  pub ready-start : Ready (problemOf g m) (startFrom k m d)
+  ready-start =
+      rw (v .square) (ready-loaded (g .n) (g .kind) m (k .labels) (k .ceilings) (k .weights) (k .terms) (scratchOf d) (v .usable .matrix) (v .room .floats) (v .room .numbers) (v .room .bytes))
+
+  pub fresh-start : Fresh (g .n) (startFrom k m d)
   fresh-start = record {
-    order = λ k h. sample-loaded (g .n) (d .numbers) numbers (g .n) k (omega arith) h;
-    index = λ k h. index-loaded (g .n) (d .numbers) numbers (g .n) k (omega arith) h;
+    order = λ i h. sample-loaded (g .n) (d .numbers) (v .room .numbers) (g .n) i (omega arith) h;
+    index = λ i h. index-loaded (g .n) (d .numbers) (v .room .numbers) (g .n) i (omega arith) h;
   }
 
-  pub fitted-travels : (t : ℕ) → Travelled (g .n) (λ k. getD l k 0) (λ k. getD p k nan) (runs g m c (startOf g m c (startFrom g m l c a p budget d)) t .state)
-  fitted-travels t =
-      let v = travelled-from g m c (startFrom g m l c a p budget d) t ready-start fresh-start in
+  pub served-travels : (t : ℕ) → Travelled (g .n) (λ s. getD (k .labels) s 0) (λ s. getD (k .terms) s nan) (after k m d t .state)
+  served-travels t =
+      let w = travelled-from g m (k .ceilings) (startFrom k m d) t ready-start fresh-start in
+      let at : ℕ → ℕ = λ i. sample (after k m d t .state) i in
       record {
-        order = v .order;
-        paired = v .paired;
-        label = λ k h. v .label k h ∙ label-loaded l (d .bytes) (g .n) (sample (runs g m c (startOf g m c (startFrom g m l c a p budget d)) t .state) k) bytes (v .order .within .below k h);
-        term = λ k h. v .term k h ∙ linear-loaded (g .n) c a p (d .floats) floats (g .n) (sample (runs g m c (startOf g m c (startFrom g m l c a p budget d)) t .state) k) (omega arith) (v .order .within .below k h);
+        order = w .order;
+        paired = w .paired;
+        label = λ i h. w .label i h ∙ label-loaded (k .labels) (d .bytes) (g .n) (at i) (v .room .bytes) (w .order .within .below i h);
+        term = λ i h.
+            w .term i h
+            ∙ linear-loaded (g .n) (k .ceilings) (k .weights) (k .terms) (d .floats) (v .room .floats) (g .n) (at i) (omega arith) (w .order .within .below i h);
       }

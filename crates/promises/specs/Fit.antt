@@ -1,28 +1,84 @@
--- The run behind an entry's answer.
+-- What each entry trains, and the run behind its answer.
 use Prim.Native.Nat.{ℕ}
+use mathlib.Core.Bool.{Bool, true, false}
 use mathlib.Core.List.{List}
-use lib.Ieee.{Float}
+use lib.Ieee.{Float, nan}
+use lib.ListN.{getD}
+use Rattle.answer.specs.Answer.{coefficientOf}
 use Rattle.answer.specs.Lent.{Lent}
 use Rattle.answer.specs.Solved.{levelAt}
-use Rattle.classification.specs.Entries.{scratchOf}
+use Rattle.answer.specs.declared.Finish.{Finish}
+use Rattle.answer.specs.declared.Finish.the-variants.{Plain, Signed, Scaled}
+use Rattle.boxed.specs.Delta.{deltaAt}
+use Rattle.classification.specs.Entries.{givenOf, scratchOf}
+use Rattle.extreme.specs.declared.Choice.{Choice}
 use Rattle.fits.specs.Load.{loaded}
+use Rattle.fits.specs.Starts.{nothing, evenly, allPositive, costsTo, half, sharedTo, oneClassTo}
+use Rattle.kernel.specs.declared.Kind.the-variants.{TwoClass, OneClass}
+use Rattle.rho.specs.Rho.{one, minusOne}
 use Rattle.solver.specs.End.{trained}
-use Rattle.solver.specs.Run.{Full}
+use Rattle.solver.specs.Pass.{countedDown, runs}
+use Rattle.solver.specs.Run.{problemOf, Full}
 use Rattle.solver.specs.declared.Given.{Given}
+use Rattle.state.specs.Fields.{alpha}
 use Rattle.state.specs.Lists.{State}
-use Rattle.trace.specs.Trace.{Step, startOf, traced}
+use Rattle.trace.specs.Trace.{Step, lookAt, pairFrom, startOf, traced}
+use Rattle.travel.specs.Home.{lastLeft}
 
--- what an entry trains: m is the matrix, l the labels, c the ceilings, a the start weights, p the linear terms
-module _ (g : Given) (m l : List ℕ) (c a p : List Float) (budget : ℕ) (d : Lent) where
+pub record Fit : Type 0 where
+  pub given : Given
+  pub how : Finish
+  pub labels : List ℕ
+  pub ceilings : List Float
+  pub weights : List Float
+  pub terms : List Float
+
+abbrev pub generalFit : ℕ → List ℕ → List Float → List Float → List Float → Bool → Float → Bool → Fit
+generalFit n l c a p nurule eps shrinking =
+    record { given = givenOf n TwoClass eps shrinking nurule; how = Plain; labels = l; ceilings = c; weights = a; terms = p }
+
+abbrev pub cFit : ℕ → List ℕ → Float → Float → Float → Bool → Fit
+cFit n l cpos cneg eps shrinking =
+    record { given = givenOf n TwoClass eps shrinking false; how = Signed; labels = l; ceilings = costsTo cpos cneg l nothing n; weights = nothing; terms = evenly minusOne n }
+
+abbrev pub nuFit : ℕ → List ℕ → Float → Float → Bool → Fit
+nuFit n l nu eps shrinking =
+    record { given = givenOf n TwoClass eps shrinking true; how = Scaled; labels = l; ceilings = evenly one n; weights = sharedTo (half nu n) l nothing n; terms = nothing }
+
+abbrev pub oneClassFit : ℕ → Float → Float → Bool → Fit
+oneClassFit n nu eps shrinking =
+    record { given = givenOf n OneClass eps shrinking false; how = Plain; labels = allPositive n; ceilings = evenly one n; weights = oneClassTo nu n nothing n; terms = nothing }
+
+-- m is the matrix, d what is lent beside the inputs
+module _ (k : Fit) (m : List ℕ) (d : Lent) where
   abbrev pub startFrom : State
-  startFrom = loaded (g .n) l c a p (scratchOf d)
+  startFrom = loaded (k .given .n) (k .labels) (k .ceilings) (k .weights) (k .terms) (scratchOf d)
 
-  abbrev pub runOf : Full
-  runOf = trained g m c budget startFrom
+  -- after t passes
+  abbrev pub after : ℕ → Full
+  after t = runs (k .given) m (k .ceilings) (startOf (k .given) m (k .ceilings) startFrom) t
+
+  -- the weight at position i then
+  abbrev pub weightAfter : ℕ → ℕ → Float
+  weightAfter t i = alpha (problemOf (k .given) m) (after t .state) i .value
+
+  -- the pair with which the next pass steps, and its step before it is clipped
+  abbrev pub pairAfter : ℕ → Choice
+  pairAfter t = pairFrom (k .given) m (after t)
+
+  abbrev pub deltaAfter : ℕ → ℕ → ℕ → Float
+  deltaAfter t i j = deltaAt (problemOf (k .given) m) (lookAt (k .given) m (countedDown (k .given) m (after t)) .state) (k .given .floor) i j
+
+  abbrev pub runOf : ℕ → Full
+  runOf budget = trained (k .given) m (k .ceilings) budget startFrom
 
   -- its steps, pass for pass
-  abbrev pub stepsOf : List Step
-  stepsOf = traced g m c (startOf g m c startFrom) budget
+  abbrev pub stepsOf : ℕ → List Step
+  stepsOf budget = traced (k .given) m (k .ceilings) (startOf (k .given) m (k .ceilings) startFrom) budget
 
-  abbrev pub rOf : Float
-  rOf = levelAt g runOf .r
+  abbrev pub rOf : ℕ → Float
+  rOf budget = levelAt (k .given) (runOf budget) .r
+
+  -- sample s at home: its start weight, or what the last step that chose it left; signed and divided as the entry answers
+  abbrev pub homeOf : ℕ → ℕ → Float
+  homeOf budget s = coefficientOf (k .how) (getD (k .labels) s 0) (rOf budget) (lastLeft (stepsOf budget) s (getD (k .weights) s nan))
