@@ -9,7 +9,7 @@ use lib.Ieee.Scale.{finite}
 use Rattle.alpha.specs.Weight.{zero, limit}
 use Rattle.alpha.specs.Weight as Weight
 use Rattle.rounding.specs.Units.{Real, Within}
-use Rattle.rounding.proofs.Order.{le-real, lt-real, not-le}
+use Rattle.rounding.proofs.Order.{neg-neg, le-real, lt-real, not-le}
 use Rattle.rounding.proofs.Units.{neg-parts, zero-parts}
 use Rattle.rounding.proofs.NoNan.{within-of, within-add, within-sub, within-twice, within-finite, div-real, sub-real}
 use Rattle.rounding.proofs.Binary64.{limit-parts, floor-above, zero-is, two-is}
@@ -55,14 +55,6 @@ pub floor-divides : Divides Weight.floor
 floor-divides = record { finite = floor-above .1; above = rw zero-is (floor-above .2) }
 
 -- ---- the step
-
-neg-neg : (x : Float) → neg (neg x) ≡ x
-unfolding neg
-neg-neg nan = refl
-neg-neg (inf false) = refl
-neg-neg (inf true) = refl
-neg-neg (fin false m e) = refl
-neg-neg (fin true m e) = refl
 
 add-real : (x y : Float) → Real (sub binary64 (neg x) y) → Real (add binary64 x y)
 unfolding sub

@@ -12,6 +12,7 @@ use lib.Ieee.Fits.{down-pos}
 use lib.Ieee.Scale.{round-same}
 use Rattle.alpha.specs.Weight.{zero}
 use Rattle.rounding.specs.Units.{nought}
+use Rattle.rounding.proofs.Order.{neg-neg}
 use Rattle.rounding.proofs.Binary64.{zero-is}
 use Rattle.rounding.proofs.Rounding.{round-number, round-parts, rounded-zero}
 use Rattle.rounding.proofs.Units.{compare, zero-parts}
@@ -44,14 +45,6 @@ module _ (f : Format) where
   opposites (inf false) t = t
   opposites (fin true m e) t = none-of-two (ltb (m * up e * down e) (m * up e * down e)) false (ltb (m * up e * down e) (m * up e * down e)) m e t
   opposites (fin false m e) t = none-of-two (ltb (m * up e * down e) (m * up e * down e)) true false m e t
-
-neg-neg : (x : Float) → neg (neg x) ≡ x
-unfolding neg
-neg-neg nan = refl
-neg-neg (inf true) = refl
-neg-neg (inf false) = refl
-neg-neg (fin true m e) = refl
-neg-neg (fin false m e) = refl
 
 own-gap : (pos : Bool) (g : Float) → T (lt zero (gapOf pos (riseOf pos g) g)) → ⊥
 unfolding sub

@@ -11,6 +11,7 @@ use lib.Ieee.{Float, nan, inf, fin, Format, emax, low, up, down, unlike, neg, ad
 use lib.Ieee.Bits.{cond-no}
 use lib.Ieee.Scale.{finite}
 use Rattle.rounding.specs.Units.{Real, Number, plus, minus, Parts, Within, nought, two}
+use Rattle.rounding.proofs.Order.{neg-neg}
 use Rattle.rounding.proofs.Units.{compare, one-part, neg-parts, finite-parts}
 use Rattle.rounding.proofs.Rounding.{round-number, rounded-power}
 use Rattle.rounding.proofs.Sums.{add-rounds, add-number, sum-real}
@@ -77,13 +78,5 @@ module _ (f : Format) where
   neg-sub-real (fin s m e) (inf t) h = tt
   neg-sub-real (fin s m e) (fin t n d) h = sum-real f (not s) (not t) (m * up e * down d) (n * up d * down e) (down e * down d)
 
-  neg-neg : (x : Float) → neg (neg x) ≡ x
-  unfolding neg
-  neg-neg nan = refl
-  neg-neg (inf false) = refl
-  neg-neg (inf true) = refl
-  neg-neg (fin false m e) = refl
-  neg-neg (fin true m e) = refl
-
   pub sub-real : (x y : Float) → Real (add f (neg x) y) → Real (sub f x y)
-  sub-real x y h = rw neg-neg at (neg-sub-real (neg x) y h)
+  sub-real x y h = rw (neg-neg x) at (neg-sub-real (neg x) y h)

@@ -7,7 +7,7 @@ use native.Mathlib.Nat.{le-of-lt, lt-of-lt-of-le, div-le-self}
 use native.Mathlib.Omega.{arith}
 use lib.Dec.{T, T-not}
 use lib.Pow.{pow-mono}
-use lib.Ieee.{Float, nan, inf, fin, up, down, lt, le, eq, ne, isNan}
+use lib.Ieee.{Float, nan, inf, fin, up, down, neg, lt, le, eq, ne, isNan}
 use lib.Ieee.Digits.{size-lt}
 use lib.Ieee.Positive.{num, den}
 use Rattle.rounding.specs.Units.{Real, negative, Compared}
@@ -164,3 +164,11 @@ unfolding ne isNan
 ne-itself nan = refl
 ne-itself (inf s) = ap not (holds (eq (inf s) (inf s)) .0 (eq-refl (inf s) tt))
 ne-itself (fin s m e) = ap not (holds (eq (fin s m e) (fin s m e)) .0 (eq-refl (fin s m e) tt))
+
+pub neg-neg : (x : Float) → neg (neg x) ≡ x
+unfolding neg
+neg-neg nan = refl
+neg-neg (inf false) = refl
+neg-neg (inf true) = refl
+neg-neg (fin false m e) = refl
+neg-neg (fin true m e) = refl

@@ -12,10 +12,10 @@ use Rattle.alpha.specs.Weight.{atUpper, atLower, isFree, zero as nought}
 use Rattle.alpha.specs.declared.Alpha.{Alpha}
 use Rattle.reconstruct.specs.Reconstruct.{freshTo, freeTo, outerBy, outerAt, outerTo, innerBy, innerAt, innerTo, branched, reconstructed, withFloats}
 use Rattle.rows.specs.Added.{rowAdded}
+use Rattle.rows.proofs.Filled.{length-rowAdded, rowAdded-other}
 use Rattle.start.specs.Start.{laidTo, diagonalTo, joinedBy, joined, gatheredTo, started}
 use Rattle.state.specs.Fields.{alpha, bound}
 use Rattle.state.specs.Lists.{Problem, State, state}
-use Rattle.update.proofs.Filled.{length-rowAdded, rowAdded-other}
 
 -- h is as long as f, and has what f has at the places from lo on and below hi
 pub record Same (lo hi : ℕ) (f h : List Float) : Type 0 where

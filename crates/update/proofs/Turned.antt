@@ -14,7 +14,7 @@ use Rattle.rows.specs.Added.{rowAdded}
 use Rattle.state.specs.Lists.{Problem, State}
 use Rattle.state.specs.Fields.{row}
 use Rattle.update.specs.Update.{signedBy, turnedBy}
-use Rattle.update.proofs.Filled.{length-rowAdded, rowAdded-other, rowAdded-at}
+use Rattle.rows.proofs.Filled.{length-rowAdded, rowAdded-other, rowAdded-at}
 
 -- a negated multiple that is added is the multiple that is taken away, bit for bit
 pub taken-away : (g x r : Float) → add binary64 g (mul binary64 (neg x) r) ≡ sub binary64 g (mul binary64 x r)
