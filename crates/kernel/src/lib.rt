@@ -12,12 +12,40 @@ pub enum Kind {
     OneClass,
 }
 
+// The lent matrix beside its side. Whoever holds a reader is walked by hand, so it stays below `entry`.
+struct Reader<'a> {
+    matrix: &'a [u8],
+    side: usize,
+}
+
+fn reader_over<'a>(matrix: &'a [u8], side: usize) -> Reader<'a>
+    ensures { λ q. ⌜ (q .matrix ≡ matrix .entry) × (q .side ≡ side) ⌝ }
+{
+    Reader { matrix, side }
+}
+
+// What a reader answers, over the plain slice.
+fn read_entry(m: &[u8], side: usize, c: usize, r: usize) -> f64
+    requires { ⌜ (Matrix side (now m)) × (c < side) × (r < side) ⌝ }
+    ensures { λ x. ⌜ x ≡ entryAt side (now (m .entry)) c r ⌝ }
+{
+    f64::from_bits(wire::word_at(m, 8 * (c * side + r)))
+}
+
+// The reader's entry of column c, row r.
+fn entry_of<'a>(q: Reader<'a>, c: usize, r: usize) -> f64
+    requires { ⌜ (Matrix (q .side) (now (q .matrix))) × (c < q .side) × (r < q .side) ⌝ }
+    ensures { λ x. ⌜ x ≡ entryAt (q .entry .side) (now (q .entry .matrix)) c r ⌝ }
+{
+    read_entry(q.matrix, q.side, c, r)
+}
+
 // The entry of column c, row r, of a matrix of side·side entries.
 pub fn entry(m: &[u8], side: usize, c: usize, r: usize) -> f64
     requires { ⌜ (Matrix side (now m)) × (c < side) × (r < side) ⌝ }
     ensures { λ x. ⌜ x ≡ entryAt side (now (m .entry)) c r ⌝ }
 {
-    f64::from_bits(wire::word_at(m, 8 * (c * side + r)))
+    entry_of(reader_over(m, side), c, r)
 }
 
 // The kernel index of position k.
