@@ -1,4 +1,4 @@
-// The lent kernel matrix, over plain slices.
+// The lent kernel matrix. A reader answers each entry; what other crates call takes plain slices.
 ghost use mathlib.Core.Bool.{Bool};
 ghost use mathlib.Core.Path.{_≡_};
 ghost use Prim.Native.Nat.{_+_, _*_, _≤_, _<_};
@@ -12,19 +12,19 @@ pub enum Kind {
     OneClass,
 }
 
-// The lent matrix beside its side. Whoever holds a reader is walked by hand, so it stays below `entry`.
+// The lent matrix and its side. Functions over a reader are proved by hand, so it doesn't leave this file.
 struct Reader<'a> {
     matrix: &'a [u8],
     side: usize,
 }
 
 fn reader_over<'a>(matrix: &'a [u8], side: usize) -> Reader<'a>
-    ensures { λ q. ⌜ (q .matrix ≡ matrix .entry) × (q .side ≡ side) ⌝ }
+    ensures { λ reader. ⌜ (reader .matrix ≡ matrix .entry) × (reader .side ≡ side) ⌝ }
 {
     Reader { matrix, side }
 }
 
-// What a reader answers, over the plain slice.
+// A reader's work, over the plain slice.
 fn read_entry(m: &[u8], side: usize, c: usize, r: usize) -> f64
     requires { ⌜ (Matrix side (now m)) × (c < side) × (r < side) ⌝ }
     ensures { λ x. ⌜ x ≡ entryAt side (now (m .entry)) c r ⌝ }
@@ -33,11 +33,11 @@ fn read_entry(m: &[u8], side: usize, c: usize, r: usize) -> f64
 }
 
 // The reader's entry of column c, row r.
-fn entry_of<'a>(q: Reader<'a>, c: usize, r: usize) -> f64
-    requires { ⌜ (Matrix (q .side) (now (q .matrix))) × (c < q .side) × (r < q .side) ⌝ }
-    ensures { λ x. ⌜ x ≡ entryAt (q .entry .side) (now (q .entry .matrix)) c r ⌝ }
+fn entry_of<'a>(reader: Reader<'a>, c: usize, r: usize) -> f64
+    requires { ⌜ (Matrix (reader .side) (now (reader .matrix))) × (c < reader .side) × (r < reader .side) ⌝ }
+    ensures { λ x. ⌜ x ≡ entryAt (reader .entry .side) (now (reader .entry .matrix)) c r ⌝ }
 {
-    read_entry(q.matrix, q.side, c, r)
+    read_entry(reader.matrix, reader.side, c, r)
 }
 
 // The entry of column c, row r, of a matrix of side·side entries.

@@ -103,6 +103,10 @@ module _ {M : Type 1} (𝓤 : URA M) (H : Heap 𝓤) (A : Atoms 𝓤) (W : Given
     abbrev to : ReadEntry 𝓤 H A mem run .Ghost
     to = (((κ, tt), (q, tt), tt, (d .matrix, (d .side, (c, (r, tt)))), passed), tt)
 
+    -- what the call ensures, without what it says of last values: nothing was lent to be written
+    said : (x : Float) → ent 𝓤 (ensured 𝓤 H A g.ended (g.clauses 𝓤 H A mem run) (κ, tt) (d .matrix, (d .side, (c, (r, tt)))) tt x) (fact 𝓤 (x ≡ answer))
+    said x = exE 𝓤 _ (λ ws. snd∗ 𝓤 (sem 𝓤 H A (lasts g.ended (κ, tt) (d .matrix, (d .side, (c, (r, tt)))) ws)) (fact 𝓤 (x ≡ answer)))
+
     asked : ent 𝓤 (onEntry 𝓤 H A g.signature (κ, tt) (q, tt) (d .matrix, (d .side, (c, (r, tt)))) passed) (ReadEntry 𝓤 H A mem run .pre to)
     asked = qed W ((‵ (flft κ q) ⊛ ‵ ftrue) ∷ ‵ (owns (ShrSlice (named 0) κ u8 ∷ usize ∷ usize ∷ usize ∷ []) (d .matrix, (d .side, (c, (r, tt)))) passed) ∷ []) ∵ says ! within $ frame ! $ done !
 
@@ -116,10 +120,6 @@ module _ {M : Type 1} (𝓤 : URA M) (H : Heap 𝓤) (A : Atoms 𝓤) (W : Given
         move ! (1 ∷ []) $ drop ! $ nothing ! $
         owned ! usize (Is usize) (uint-makes 𝓤 H A W w64) r _ (refl, fits-r) $ fjoin ! $ owned ! usize (Is usize) (uint-makes 𝓤 H A W w64) c _ (refl, fits-c) $ fjoin ! $ owned ! usize (Is usize) (uint-makes 𝓤 H A W w64) (d .side) _ (refl, fits-side) $ fjoin ! $
         move ! (1 ∷ 0 ∷ []) $ fjoin ! $ move ! (2 ∷ 0 ∷ []) $ use2 W (raw (ReadEntry 𝓤 H A mem run .pre to)) asked $ frame ! $ done !)
-
-    -- what the call ensures, without what it says of last values: nothing was lent to be written
-    said : (x : Float) → ent 𝓤 (ensured 𝓤 H A g.ended (g.clauses 𝓤 H A mem run) (κ, tt) (d .matrix, (d .side, (c, (r, tt)))) tt x) (fact 𝓤 (x ≡ answer))
-    said x = exE 𝓤 _ (λ ws. snd∗ 𝓤 (sem 𝓤 H A (lasts g.ended (κ, tt) (d .matrix, (d .side, (c, (r, tt)))) ws)) (fact 𝓤 (x ≡ answer)))
 
     exits : (x : Float) (u : Val) → x ≡ answer → ent 𝓤 (⋆ 𝓤 H A (‵ (f64 .own x (u ∷ [])) ∷ (‵ (flft κ q) ⊛ ‵ ftrue) ∷ ‵ Own ∷ [])) (Post u)
     exits x u e =
