@@ -56,11 +56,11 @@ use Rattle.kernel.proofs.entry.Statement as stated
 use Rattle.kernel.proofs.entry.Code as code
 
 -- a reader's type over the signature's lifetime
-abbrev B : Lfts 1 → RattleType
-B κs = T.the-row (namedLft 1 0 tt κs)
+abbrev Row : Lfts 1 → RattleType
+Row κs = T.the-row (namedLft 1 0 tt κs)
 
-abbrev stayed : Stays (f.ended .signature .params) (f.ended .kept)
-stayed = (stay-none-slice (0 ∷ []) tt (plain (λ _. u8)) yes, (stay-none (λ _. usize) yes, (stay-none (λ _. usize) yes, (stay-none (λ _. usize) yes, tt))))
+abbrev keeps : Stays (f.ended .signature .params) (f.ended .kept)
+keeps = (stay-none-slice (0 ∷ []) tt (plain (λ _. u8)) yes, (stay-none (λ _. usize) yes, (stay-none (λ _. usize) yes, (stay-none (λ _. usize) yes, tt))))
 
 module _ {M : Type 1} (𝓤 : URA M) (H : Heap 𝓤) (A : Atoms 𝓤) (mem : Memory → SProp 𝓤) (run : Routine → Fun 𝓤) where
   abbrev Over : Contract 𝓤
@@ -78,88 +78,88 @@ module _ {M : Type 1} (𝓤 : URA M) (H : Heap 𝓤) (A : Atoms 𝓤) (W : Given
     answer = entryAt side (now m) c r
 
     -- a reader's type as a local has it
-    abbrev αᵉ : NamedLft
-    αᵉ = record { mir = erased; lft = κ }
+    abbrev nameless : NamedLft
+    nameless = record { mir = erased; lft = κ }
 
-    abbrev at : Vals f.signature (κ, tt)
-    at = (slice ∷ [], (vint w64 side ∷ [], (vint w64 c ∷ [], (vint w64 r ∷ [], tt))))
+    abbrev vals : Vals f.signature (κ, tt)
+    vals = (slice ∷ [], (vint w64 side ∷ [], (vint w64 c ∷ [], (vint w64 r ∷ [], tt))))
 
     abbrev Post : Val → SProp 𝓤
-    Post = walkOf 𝓤 H A f.ended stayed (f.clauses 𝓤 H A mem run) .post (((κ, tt), (q, tt), tt, (m, (side, (c, (r, tt)))), at), tt)
+    Post = walkOf 𝓤 H A f.ended keeps (f.clauses 𝓤 H A mem run) .post (((κ, tt), (q, tt), tt, (m, (side, (c, (r, tt)))), vals), tt)
 
-    abbrev Own : Fml
-    Own = ShrSlice (named 0) κ u8 .own m (slice ∷ [])
+    abbrev Lent : Fml
+    Lent = ShrSlice (named 0) κ u8 .own m (slice ∷ [])
 
     -- the call of `reader_over`
-    abbrev to-over : Over 𝓤 H A mem run .Ghost
-    to-over = (((κ, tt), (q, tt), tt, (m, (side, tt)), (slice ∷ [], (vint w64 side ∷ [], tt))), tt)
+    abbrev asks-over : Over 𝓤 H A mem run .Ghost
+    asks-over = (((κ, tt), (q, tt), tt, (m, (side, tt)), (slice ∷ [], (vint w64 side ∷ [], tt))), tt)
 
-    asked-over : ent 𝓤 (onEntry 𝓤 H A over.signature (κ, tt) (q, tt) (m, (side, tt)) (slice ∷ [], (vint w64 side ∷ [], tt))) (Over 𝓤 H A mem run .pre to-over)
-    asked-over = qed W ((‵ (flft κ q) ⊛ ‵ ftrue) ∷ ‵ (owns (ShrSlice (named 0) κ u8 ∷ usize ∷ []) (m, (side, tt)) (slice ∷ [], (vint w64 side ∷ [], tt))) ∷ []) ∵ join ! $ frame ! $ done !
+    allowed-over : ent 𝓤 (onEntry 𝓤 H A over.signature (κ, tt) (q, tt) (m, (side, tt)) (slice ∷ [], (vint w64 side ∷ [], tt))) (Over 𝓤 H A mem run .pre asks-over)
+    allowed-over = qed W ((‵ (flft κ q) ⊛ ‵ ftrue) ∷ ‵ (owns (ShrSlice (named 0) κ u8 ∷ usize ∷ []) (m, (side, tt)) (slice ∷ [], (vint w64 side ∷ [], tt))) ∷ []) ∵ join ! $ frame ! $ done !
 
-    goes-over : ent 𝓤 (onEntry 𝓤 H A f.signature (κ, tt) (q, tt) (m, (side, (c, (r, tt)))) at) (sep 𝓤 (Over 𝓤 H A mem run .pre to-over) (sem 𝓤 H A Own))
-    goes-over =
-        qed W ((‵ (flft κ q) ⊛ ‵ ftrue) ∷ ‵ (owns (ShrSlice (named 0) κ u8 ∷ usize ∷ usize ∷ usize ∷ []) (m, (side, (c, (r, tt)))) at) ∷ []) ∵
-        move ! (1 ∷ []) $ fsplit ! $ move ! (1 ∷ []) $ drop ! $ use1 W (‵ Own ⊛ ‵ Own) (shr-slice-copy 𝓤 H A W (named 0) κ u8 .twice m (slice ∷ [])) $ split ! $
+    opened-over : ent 𝓤 (onEntry 𝓤 H A f.signature (κ, tt) (q, tt) (m, (side, (c, (r, tt)))) vals) (sep 𝓤 (Over 𝓤 H A mem run .pre asks-over) (sem 𝓤 H A Lent))
+    opened-over =
+        qed W ((‵ (flft κ q) ⊛ ‵ ftrue) ∷ ‵ (owns (ShrSlice (named 0) κ u8 ∷ usize ∷ usize ∷ usize ∷ []) (m, (side, (c, (r, tt)))) vals) ∷ []) ∵
+        move ! (1 ∷ []) $ fsplit ! $ move ! (1 ∷ []) $ drop ! $ use1 W (‵ Lent ⊛ ‵ Lent) (shr-slice-copy 𝓤 H A W (named 0) κ u8 .twice m (slice ∷ [])) $ split ! $
         nothing ! $ owned ! usize (Is usize) (uint-makes 𝓤 H A W w64) side _ (refl, fits-side) $ fjoin ! $ move ! (1 ∷ 0 ∷ []) $ fjoin ! $
-        move ! (2 ∷ 0 ∷ []) $ use2 W (raw (Over 𝓤 H A mem run .pre to-over)) asked-over $ frame ! $ done !
+        move ! (2 ∷ 0 ∷ []) $ use2 W (raw (Over 𝓤 H A mem run .pre asks-over)) allowed-over $ frame ! $ done !
 
-    said-over : (d : Reader) → ent 𝓤 (ensured 𝓤 H A over.ended (over.clauses 𝓤 H A mem run) (κ, tt) (m, (side, tt)) tt d) (fact 𝓤 ((d .matrix ≡ m) × (d .side ≡ side)))
-    said-over d = exE 𝓤 _ (λ ws. snd∗ 𝓤 (sem 𝓤 H A (lasts over.ended (κ, tt) (m, (side, tt)) ws)) (fact 𝓤 ((d .matrix ≡ m) × (d .side ≡ side))))
+    told-over : (d : Reader) → ent 𝓤 (ensured 𝓤 H A over.ended (over.clauses 𝓤 H A mem run) (κ, tt) (m, (side, tt)) tt d) (fact 𝓤 ((d .matrix ≡ m) × (d .side ≡ side)))
+    told-over d = exE 𝓤 _ (λ ws. snd∗ 𝓤 (sem 𝓤 H A (lasts over.ended (κ, tt) (m, (side, tt)) ws)) (fact 𝓤 ((d .matrix ≡ m) × (d .side ≡ side))))
 
     -- the call of `entry_of`, at the reader d with the machine value u
-    abbrev to-of : Reader → Val → Of 𝓤 H A mem run .Ghost
-    to-of d u = (((κ, tt), (q, tt), tt, (d, (c, (r, tt))), (u ∷ [], (vint w64 c ∷ [], (vint w64 r ∷ [], tt)))), tt)
+    abbrev asks-of : Reader → Val → Of 𝓤 H A mem run .Ghost
+    asks-of d u = (((κ, tt), (q, tt), tt, (d, (c, (r, tt))), (u ∷ [], (vint w64 c ∷ [], (vint w64 r ∷ [], tt)))), tt)
 
-    inside-of : (d : Reader) → (d .matrix ≡ m) × (d .side ≡ side) → (Matrix (d .side) (now (d .matrix))) × (c < d .side) × (r < d .side)
-    inside-of d e = rw (e .0, e .1) within
+    within-of : (d : Reader) → (d .matrix ≡ m) × (d .side ≡ side) → (Matrix (d .side) (now (d .matrix))) × (c < d .side) × (r < d .side)
+    within-of d e = rw (e .0, e .1) within
 
-    goes-of : (d : Reader) (u : Val) → (d .matrix ≡ m) × (d .side ≡ side) → ent 𝓤 (⋆ 𝓤 H A (‵ (B (κ, tt) .own d (u ∷ [])) ∷ (‵ (flft κ q) ⊛ ‵ ftrue) ∷ [])) (Of 𝓤 H A mem run .pre (to-of d u))
-    goes-of d u e =
-        qed W (‵ (B (κ, tt) .own d (u ∷ [])) ∷ (‵ (flft κ q) ⊛ ‵ ftrue) ∷ []) ∵ says ! (inside-of d e) $ move ! (1 ∷ []) $ frame ! $
+    opened-of : (d : Reader) (u : Val) → (d .matrix ≡ m) × (d .side ≡ side) → ent 𝓤 (⋆ 𝓤 H A (‵ (Row (κ, tt) .own d (u ∷ [])) ∷ (‵ (flft κ q) ⊛ ‵ ftrue) ∷ [])) (Of 𝓤 H A mem run .pre (asks-of d u))
+    opened-of d u e =
+        qed W (‵ (Row (κ, tt) .own d (u ∷ [])) ∷ (‵ (flft κ q) ⊛ ‵ ftrue) ∷ []) ∵ says ! (within-of d e) $ move ! (1 ∷ []) $ frame ! $
         nothing ! $ owned ! usize (Is usize) (uint-makes 𝓤 H A W w64) r _ (refl, fits-r) $ fjoin ! $ owned ! usize (Is usize) (uint-makes 𝓤 H A W w64) c _ (refl, fits-c) $ fjoin ! $ move ! (1 ∷ 0 ∷ []) $ fjoin ! $ done !
 
-    said-of : (d : Reader) (x : Float) → ent 𝓤 (ensured 𝓤 H A of.ended (of.clauses 𝓤 H A mem run) (κ, tt) (d, (c, (r, tt))) tt x) (fact 𝓤 (x ≡ entryAt (d .side) (now (d .matrix)) c r))
-    said-of d x = exE 𝓤 _ (λ ws. snd∗ 𝓤 (sem 𝓤 H A (lasts of.ended (κ, tt) (d, (c, (r, tt))) ws)) (fact 𝓤 (x ≡ entryAt (d .side) (now (d .matrix)) c r)))
+    told-of : (d : Reader) (x : Float) → ent 𝓤 (ensured 𝓤 H A of.ended (of.clauses 𝓤 H A mem run) (κ, tt) (d, (c, (r, tt))) tt x) (fact 𝓤 (x ≡ entryAt (d .side) (now (d .matrix)) c r))
+    told-of d x = exE 𝓤 _ (λ ws. snd∗ 𝓤 (sem 𝓤 H A (lasts of.ended (κ, tt) (d, (c, (r, tt))) ws)) (fact 𝓤 (x ≡ entryAt (d .side) (now (d .matrix)) c r)))
 
     same : (d : Reader) (x : Float) → (d .matrix ≡ m) × (d .side ≡ side) → x ≡ entryAt (d .side) (now (d .matrix)) c r → x ≡ answer
     same d x e h = rw (← e .0, ← e .1) h
 
-    exits : (x : Float) (u : Val) → x ≡ answer → ent 𝓤 (⋆ 𝓤 H A (‵ (f64 .own x (u ∷ [])) ∷ (‵ (flft κ q) ⊛ ‵ ftrue) ∷ ‵ Own ∷ [])) (Post u)
-    exits x u e =
-        qed W (‵ (f64 .own x (u ∷ [])) ∷ (‵ (flft κ q) ⊛ ‵ ftrue) ∷ ‵ Own ∷ []) ∵
-        suffices ! _ (ends-at 𝓤 H A f.ended stayed (f.clauses 𝓤 H A mem run) W (((κ, tt), (q, tt), tt, (m, (side, (c, (r, tt)))), at), tt) u x (tt, (tt, (tt, (tt, tt)))) (tt, (tt, (tt, (tt, tt))))) $ says ! e $
+    ends : (x : Float) (u : Val) → x ≡ answer → ent 𝓤 (⋆ 𝓤 H A (‵ (f64 .own x (u ∷ [])) ∷ (‵ (flft κ q) ⊛ ‵ ftrue) ∷ ‵ Lent ∷ [])) (Post u)
+    ends x u e =
+        qed W (‵ (f64 .own x (u ∷ [])) ∷ (‵ (flft κ q) ⊛ ‵ ftrue) ∷ ‵ Lent ∷ []) ∵
+        suffices ! _ (ends-at 𝓤 H A f.ended keeps (f.clauses 𝓤 H A mem run) W (((κ, tt), (q, tt), tt, (m, (side, (c, (r, tt)))), vals), tt) u x (tt, (tt, (tt, (tt, tt)))) (tt, (tt, (tt, (tt, tt))))) $ says ! e $
         move ! (1 ∷ []) $ frame ! $ nothing ! $ owned ! usize (Is usize) (uint-makes 𝓤 H A W w64) r _ (refl, fits-r) $ fjoin ! $ owned ! usize (Is usize) (uint-makes 𝓤 H A W w64) c _ (refl, fits-c) $ fjoin ! $ owned ! usize (Is usize) (uint-makes 𝓤 H A W w64) side _ (refl, fits-side) $ fjoin ! $
         move ! (2 ∷ 0 ∷ []) $ fjoin ! $ frame ! $ done !
 
     module _ (C : Calls 𝓤 H) (Λ : Loops 𝓤 H) (fm : FmC 𝓤 H (W .laws) C) (known-over : Triple 𝓤 (C #kernel·reader-over) (Over 𝓤 H A mem run)) (known-of : Triple 𝓤 (C #kernel·entry-of) (Of 𝓤 H A mem run)) where
-      walk : Is (ShrSlice (named 0) κ u8) m (slice ∷ []) → ent 𝓤 (onEntry 𝓤 H A f.signature (κ, tt) (q, tt) (m, (side, (c, (r, tt)))) at) (WpFn 𝓤 H C Λ code.function (slice ∷ vint w64 side ∷ vint w64 c ∷ vint w64 r ∷ []) Post)
+      walk : Is (ShrSlice (named 0) κ u8) m (slice ∷ []) → ent 𝓤 (onEntry 𝓤 H A f.signature (κ, tt) (q, tt) (m, (side, (c, (r, tt)))) vals) (WpFn 𝓤 H C Λ code.function (slice ∷ vint w64 side ∷ vint w64 c ∷ vint w64 r ∷ []) Post)
       walk p =
-          qed W (raw (onEntry 𝓤 H A f.signature (κ, tt) (q, tt) (m, (side, (c, (r, tt)))) at) ∷ []) ∵ enter ! C Λ code.function (slice ∷ vint w64 side ∷ vint w64 c ∷ vint w64 r ∷ []) _ $
+          qed W (raw (onEntry 𝓤 H A f.signature (κ, tt) (q, tt) (m, (side, (c, (r, tt)))) vals) ∷ []) ∵ enter ! C Λ code.function (slice ∷ vint w64 side ∷ vint w64 c ∷ vint w64 r ∷ []) _ $
           alloc1 ! (λ l₀. alloc1 ! (λ l₁. alloc1 ! (λ l₂. alloc1 ! (λ l₃. alloc1 ! (λ l₄. alloc1 ! (λ l₅. alloc0 ! $ params1 ! $
           pass1 ! (init ! 8 refl (shr-slice-lawful 𝓤 H A W (named 0) κ u8 .typed m (slice ∷ []) p .0)) $ pass1 ! (init ! 6 refl (tt, record { fits = fits-side })) $
           pass1 ! (init ! 4 refl (tt, record { fits = fits-c })) $ pass1 ! (init ! 2 refl (tt, record { fits = fits-r })) $ pass0 ! $
-          move ! (12 ∷ []) $ use1 W (raw (Over 𝓤 H A mem run .pre to-over) ⊛ ‵ Own) goes-over $ split ! $
-          calls-at ! fm (Over 𝓤 H A mem run) known-over to-over (and-then ! (load ! (from ! (stop !)) (look ! 10 refl)) (and-then ! (load ! (from ! (stop !)) (look ! 8 refl)) (no-more !))) (λ u.
-          use1 W (later (some (λ (d : Reader). ((‵ (flft κ q) ⊛ ‵ ftrue) ⊛ ‵ (B (κ, tt) .own d (u ∷ []))) ⊛ raw (ensured 𝓤 H A over.ended (over.clauses 𝓤 H A mem run) (κ, tt) (m, (side, tt)) tt d)))) (id⊢ 𝓤 _) $ await ! tt $ pick ! (λ d.
-          split ! $ move ! (1 ∷ []) $ use1 W (raw (fact 𝓤 ((d .matrix ≡ m) × (d .side ≡ side)))) (said-over d) $ heard ! ((d .matrix ≡ m) × (d .side ≡ side)) (λ e. split ! $ move ! (1 ∷ []) $
+          move ! (12 ∷ []) $ use1 W (raw (Over 𝓤 H A mem run .pre asks-over) ⊛ ‵ Lent) opened-over $ split ! $
+          calls-at ! fm (Over 𝓤 H A mem run) known-over asks-over (and-then ! (load ! (from ! (stop !)) (look ! 10 refl)) (and-then ! (load ! (from ! (stop !)) (look ! 8 refl)) (no-more !))) (λ u.
+          use1 W (later (some (λ (d : Reader). ((‵ (flft κ q) ⊛ ‵ ftrue) ⊛ ‵ (Row (κ, tt) .own d (u ∷ []))) ⊛ raw (ensured 𝓤 H A over.ended (over.clauses 𝓤 H A mem run) (κ, tt) (m, (side, tt)) tt d)))) (id⊢ 𝓤 _) $ await ! tt $ pick ! (λ d.
+          split ! $ move ! (1 ∷ []) $ use1 W (raw (fact 𝓤 ((d .matrix ≡ m) × (d .side ≡ side)))) (told-over d) $ heard ! ((d .matrix ≡ m) × (d .side ≡ side)) (λ e. split ! $ move ! (1 ∷ []) $
           -- [the reader's; the token; the slice's; room for _5; …; _4; …; room for _0; …]
-          peeks ! (B (κ, tt)) (Is (B (κ, tt))) (shows 𝓤 H A (B (κ, tt))) d (u ∷ []) (λ is.
-          land ! (from ! (stop !)) (init ! 3 refl (LL.lawful (T.the-type αᵉ) (T′.the-laws αᵉ) 𝓤 H A W .typed d _ is .0)) $
-          use2 W (raw (Of 𝓤 H A mem run .pre (to-of d u))) (goes-of d u e) $
-          calls-at ! fm (Of 𝓤 H A mem run) known-of (to-of d u) (and-then ! (load ! (from ! (stop !)) (look ! 2 refl)) (and-then ! (load ! (from ! (stop !)) (look ! 6 refl)) (and-then ! (load ! (from ! (stop !)) (look ! 4 refl)) (no-more !)))) (λ v.
+          peeks ! (Row (κ, tt)) (Is (Row (κ, tt))) (shows 𝓤 H A (Row (κ, tt))) d (u ∷ []) (λ is.
+          land ! (from ! (stop !)) (init ! 3 refl (LL.lawful (T.the-type nameless) (T′.the-laws nameless) 𝓤 H A W .typed d _ is .0)) $
+          use2 W (raw (Of 𝓤 H A mem run .pre (asks-of d u))) (opened-of d u e) $
+          calls-at ! fm (Of 𝓤 H A mem run) known-of (asks-of d u) (and-then ! (load ! (from ! (stop !)) (look ! 2 refl)) (and-then ! (load ! (from ! (stop !)) (look ! 6 refl)) (and-then ! (load ! (from ! (stop !)) (look ! 4 refl)) (no-more !)))) (λ v.
           use1 W (later (some (λ (x : Float). ((‵ (flft κ q) ⊛ ‵ ftrue) ⊛ ‵ (f64 .own x (v ∷ []))) ⊛ raw (ensured 𝓤 H A of.ended (of.clauses 𝓤 H A mem run) (κ, tt) (d, (c, (r, tt))) tt x)))) (id⊢ 𝓤 _) $ await ! tt $ pick ! (λ x.
-          split ! $ move ! (1 ∷ []) $ use1 W (raw (fact 𝓤 (x ≡ entryAt (d .side) (now (d .matrix)) c r))) (said-of d x) $ heard ! (x ≡ entryAt (d .side) (now (d .matrix)) c r) (λ h. split ! $ move ! (1 ∷ []) $
+          split ! $ move ! (1 ∷ []) $ use1 W (raw (fact 𝓤 (x ≡ entryAt (d .side) (now (d .matrix)) c r))) (told-of d x) $ heard ! (x ≡ entryAt (d .side) (now (d .matrix)) c r) (λ h. split ! $ move ! (1 ∷ []) $
           -- [the answer's; the token; the slice's; _5; …; room for _0; …]
           peeks ! f64 (Is f64) (shows 𝓤 H A f64) x (v ∷ []) (λ is′.
           land ! (from ! (stop !)) (init ! 13 refl (float-lawful 𝓤 H A W binary64 .typed x _ is′ .0)) $
           returns ! (look ! 13 refl) $ forget ! 3 refl $ forget ! 5 refl $ forget ! 7 refl $ forget ! 9 refl $ forget ! 11 refl $ forget ! 13 refl $
           move ! (13 ∷ 14 ∷ []) $ free1 ! $ move ! (11 ∷ 12 ∷ []) $ free1 ! $ move ! (9 ∷ 10 ∷ []) $ free1 ! $ move ! (7 ∷ 8 ∷ []) $ free1 ! $ move ! (5 ∷ 6 ∷ []) $ free1 ! $ move ! (3 ∷ 4 ∷ []) $ free1 ! $ free0 ! $
-          by ! (exits x v (same d x e h))))))))))))))))
+          by ! (ends x v (same d x e h))))))))))))))))
 
-  walks : (C : Calls 𝓤 H) (Λ : Loops 𝓤 H) → FmC 𝓤 H (W .laws) C → Triple 𝓤 (C #kernel·reader-over) (Over 𝓤 H A mem run) → Triple 𝓤 (C #kernel·entry-of) (Of 𝓤 H A mem run) → Walks 𝓤 H A f.ended stayed (WpFn 𝓤 H C Λ code.function) (f.clauses 𝓤 H A mem run)
+  walks : (C : Calls 𝓤 H) (Λ : Loops 𝓤 H) → FmC 𝓤 H (W .laws) C → Triple 𝓤 (C #kernel·reader-over) (Over 𝓤 H A mem run) → Triple 𝓤 (C #kernel·entry-of) (Of 𝓤 H A mem run) → Walks 𝓤 H A f.ended keeps (WpFn 𝓤 H C Λ code.function) (f.clauses 𝓤 H A mem run)
   walks C Λ fm known-over known-of =
-      walked 𝓤 H A f.ended stayed (f.clauses 𝓤 H A mem run) (WpFn 𝓤 H C Λ code.function)
+      walked 𝓤 H A f.ended keeps (f.clauses 𝓤 H A mem run) (WpFn 𝓤 H C Λ code.function)
       (λ κs. (slice-vals, (uint-vals w64, (uint-vals w64, (uint-vals w64, tt)))))
       (λ κs. (shr-slice-tells (named 0) (κs .0) u8, (uint-tells w64, (uint-tells w64, (uint-tells w64, tt)))))
       (λ κs qs bounds a _ are. needs 𝓤 _ _ (λ within.
@@ -168,7 +168,7 @@ module _ {M : Type 1} (𝓤 : URA M) (H : Heap 𝓤) (A : Atoms 𝓤) (W : Given
   meets : (𝓣 : Tables 𝓤 H) → Triple 𝓤 (𝓣 .C #kernel·reader-over) (Over 𝓤 H A mem run) → Triple 𝓤 (𝓣 .C #kernel·entry-of) (Of 𝓤 H A mem run) → Meets 𝓤 H A f.signature (WpFn 𝓤 H (𝓣 .C) (𝓣 .Λ) code.function) (f.spec 𝓤 H A mem run)
   meets 𝓣 known-over known-of =
       let goes = goes-none 𝓤 H A W 1 (λ _. usize) yes (λ κs x e. refl) in
-      walk-meets 𝓤 H A f.ended stayed W (goes-none-slice 𝓤 H A W 1 (0 ∷ []) tt (plain (λ _. u8)) yes, (goes, (goes, (goes, tt))))
+      walk-meets 𝓤 H A f.ended keeps W (goes-none-slice 𝓤 H A W 1 (0 ∷ []) tt (plain (λ _. u8)) yes, (goes, (goes, (goes, tt))))
       (f.clauses 𝓤 H A mem run) (WpFn 𝓤 H (𝓣 .C) (𝓣 .Λ) code.function) (WpFn-mono 𝓤 H (W .laws) 𝓣 code.function) (walks (𝓣 .C) (𝓣 .Λ) (fmOf 𝓤 H (W .laws) 𝓣) known-over known-of)
 
 pub entry-spec : {M : Type 1} → stated.statement M

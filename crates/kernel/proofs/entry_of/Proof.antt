@@ -57,11 +57,11 @@ use Rattle.kernel.proofs.entry_of.Statement as stated
 use Rattle.kernel.proofs.entry_of.Code as code
 
 -- a reader's type over the signature's lifetime
-abbrev B : Lfts 1 → RattleType
-B κs = T.the-row (namedLft 1 0 tt κs)
+abbrev Row : Lfts 1 → RattleType
+Row κs = T.the-row (namedLft 1 0 tt κs)
 
-abbrev stayed : Stays (f.ended .signature .params) (f.ended .kept)
-stayed = (stay-none B yes, (stay-none (λ _. usize) yes, (stay-none (λ _. usize) yes, tt)))
+abbrev keeps : Stays (f.ended .signature .params) (f.ended .kept)
+keeps = (stay-none Row yes, (stay-none (λ _. usize) yes, (stay-none (λ _. usize) yes, tt)))
 
 module _ {M : Type 1} (𝓤 : URA M) (H : Heap 𝓤) (A : Atoms 𝓤) (mem : Memory → SProp 𝓤) (run : Routine → Fun 𝓤) where
   abbrev ReadEntry : Contract 𝓤
@@ -69,13 +69,13 @@ module _ {M : Type 1} (𝓤 : URA M) (H : Heap 𝓤) (A : Atoms 𝓤) (mem : Mem
 
 module _ {M : Type 1} (𝓤 : URA M) (H : Heap 𝓤) (A : Atoms 𝓤) (W : Given 𝓤 H A) (mem : Memory → SProp 𝓤) (run : Routine → Fun 𝓤) where
   module _ (κ : Lft) (q : Share) (d : Reader) (c r : ℕ) (fits-c : c < 2 ^ 64) (fits-r : r < 2 ^ 64) (within : (Matrix (d .side) (now (d .matrix))) × (c < d .side) × (r < d .side)) where
-    abbrev D : Declared
-    D = T.the-type (namedLft 1 0 tt (κ, tt))
+    abbrev shape : Declared
+    shape = T.the-type (namedLft 1 0 tt (κ, tt))
 
-    abbrev L : LL.Laws D
-    L = T′.the-laws (namedLft 1 0 tt (κ, tt))
+    abbrev laws : LL.Laws shape
+    laws = T′.the-laws (namedLft 1 0 tt (κ, tt))
 
-    abbrev parts : Values (D .parts)
+    abbrev parts : Values (shape .parts)
     parts = (d .matrix, (d .side, tt))
 
     -- the machine values of the reader and of its slice
@@ -88,67 +88,67 @@ module _ {M : Type 1} (𝓤 : URA M) (H : Heap 𝓤) (A : Atoms 𝓤) (W : Given
     abbrev answer : Float
     answer = entryAt (d .side) (now (d .matrix)) c r
 
-    abbrev at : Vals f.signature (κ, tt)
-    at = (low ∷ [], (vint w64 c ∷ [], (vint w64 r ∷ [], tt)))
+    abbrev vals : Vals f.signature (κ, tt)
+    vals = (low ∷ [], (vint w64 c ∷ [], (vint w64 r ∷ [], tt)))
 
     abbrev Post : Val → SProp 𝓤
-    Post = walkOf 𝓤 H A f.ended stayed (f.clauses 𝓤 H A mem run) .post (((κ, tt), (q, tt), tt, (d, (c, (r, tt))), at), tt)
+    Post = walkOf 𝓤 H A f.ended keeps (f.clauses 𝓤 H A mem run) .post (((κ, tt), (q, tt), tt, (d, (c, (r, tt))), vals), tt)
 
-    abbrev Own : Fml
-    Own = B (κ, tt) .own d (low ∷ [])
+    abbrev Held : Fml
+    Held = Row (κ, tt) .own d (low ∷ [])
 
-    abbrev passed : Vals g.signature (κ, tt)
-    passed = (slice ∷ [], (vint w64 (d .side) ∷ [], (vint w64 c ∷ [], (vint w64 r ∷ [], tt))))
+    abbrev sent : Vals g.signature (κ, tt)
+    sent = (slice ∷ [], (vint w64 (d .side) ∷ [], (vint w64 c ∷ [], (vint w64 r ∷ [], tt))))
 
-    abbrev to : ReadEntry 𝓤 H A mem run .Ghost
-    to = (((κ, tt), (q, tt), tt, (d .matrix, (d .side, (c, (r, tt)))), passed), tt)
+    abbrev asks : ReadEntry 𝓤 H A mem run .Ghost
+    asks = (((κ, tt), (q, tt), tt, (d .matrix, (d .side, (c, (r, tt)))), sent), tt)
 
     -- what the call ensures, without what it says of last values: nothing was lent to be written
-    said : (x : Float) → ent 𝓤 (ensured 𝓤 H A g.ended (g.clauses 𝓤 H A mem run) (κ, tt) (d .matrix, (d .side, (c, (r, tt)))) tt x) (fact 𝓤 (x ≡ answer))
-    said x = exE 𝓤 _ (λ ws. snd∗ 𝓤 (sem 𝓤 H A (lasts g.ended (κ, tt) (d .matrix, (d .side, (c, (r, tt)))) ws)) (fact 𝓤 (x ≡ answer)))
+    told : (x : Float) → ent 𝓤 (ensured 𝓤 H A g.ended (g.clauses 𝓤 H A mem run) (κ, tt) (d .matrix, (d .side, (c, (r, tt)))) tt x) (fact 𝓤 (x ≡ answer))
+    told x = exE 𝓤 _ (λ ws. snd∗ 𝓤 (sem 𝓤 H A (lasts g.ended (κ, tt) (d .matrix, (d .side, (c, (r, tt)))) ws)) (fact 𝓤 (x ≡ answer)))
 
-    asked : ent 𝓤 (onEntry 𝓤 H A g.signature (κ, tt) (q, tt) (d .matrix, (d .side, (c, (r, tt)))) passed) (ReadEntry 𝓤 H A mem run .pre to)
-    asked = qed W ((‵ (flft κ q) ⊛ ‵ ftrue) ∷ ‵ (owns (ShrSlice (named 0) κ u8 ∷ usize ∷ usize ∷ usize ∷ []) (d .matrix, (d .side, (c, (r, tt)))) passed) ∷ []) ∵ says ! within $ frame ! $ done !
+    allowed : ent 𝓤 (onEntry 𝓤 H A g.signature (κ, tt) (q, tt) (d .matrix, (d .side, (c, (r, tt)))) sent) (ReadEntry 𝓤 H A mem run .pre asks)
+    allowed = qed W ((‵ (flft κ q) ⊛ ‵ ftrue) ∷ ‵ (owns (ShrSlice (named 0) κ u8 ∷ usize ∷ usize ∷ usize ∷ []) (d .matrix, (d .side, (c, (r, tt)))) sent) ∷ []) ∵ says ! within $ frame ! $ done !
 
     -- out of what the reader owns comes what the call asks, and the copy that is kept
-    apart : d .side < 2 ^ 64 → ent 𝓤 (onEntry 𝓤 H A f.signature (κ, tt) (q, tt) (d, (c, (r, tt))) at) (sep 𝓤 (ReadEntry 𝓤 H A mem run .pre to) (sem 𝓤 H A Own))
-    apart fits-side =
-        qed W ((‵ (flft κ q) ⊛ ‵ ftrue) ∷ ‵ (owns (B (κ, tt) ∷ usize ∷ usize ∷ []) (d, (c, (r, tt))) at) ∷ []) ∵
-        move ! (1 ∷ []) $ fsplit ! $ move ! (1 ∷ []) $ drop ! $ use1 W (‵ Own ⊛ ‵ Own) (LL.copy D (T′.the-copy (namedLft 1 0 tt (κ, tt))) 𝓤 H A W .twice d (low ∷ [])) $ split ! $
-        use1 W (given (low ∷ [] ≡ low ∷ []) (‵ (all-own (D .parts) L parts))) (own-open 𝓤 H A W D L parts low) $ learn ! (λ _. use1 W (‵ (ownAt (D .parts) L 0 (d .matrix)) ⊛ ‵ (rest (D .parts) L 0 parts)) (own-out 𝓤 H A W (D .parts) L 0 parts) $ split ! $
+    opened : d .side < 2 ^ 64 → ent 𝓤 (onEntry 𝓤 H A f.signature (κ, tt) (q, tt) (d, (c, (r, tt))) vals) (sep 𝓤 (ReadEntry 𝓤 H A mem run .pre asks) (sem 𝓤 H A Held))
+    opened fits-side =
+        qed W ((‵ (flft κ q) ⊛ ‵ ftrue) ∷ ‵ (owns (Row (κ, tt) ∷ usize ∷ usize ∷ []) (d, (c, (r, tt))) vals) ∷ []) ∵
+        move ! (1 ∷ []) $ fsplit ! $ move ! (1 ∷ []) $ drop ! $ use1 W (‵ Held ⊛ ‵ Held) (LL.copy shape (T′.the-copy (namedLft 1 0 tt (κ, tt))) 𝓤 H A W .twice d (low ∷ [])) $ split ! $
+        use1 W (given (low ∷ [] ≡ low ∷ []) (‵ (all-own (shape .parts) laws parts))) (own-open 𝓤 H A W shape laws parts low) $ learn ! (λ _. use1 W (‵ (ownAt (shape .parts) laws 0 (d .matrix)) ⊛ ‵ (rest (shape .parts) laws 0 parts)) (own-out 𝓤 H A W (shape .parts) laws 0 parts) $ split ! $
         -- [the slice's; the side's; the kept copy; the token]
         move ! (1 ∷ []) $ drop ! $ nothing ! $
         owned ! usize (Is usize) (uint-makes 𝓤 H A W w64) r _ (refl, fits-r) $ fjoin ! $ owned ! usize (Is usize) (uint-makes 𝓤 H A W w64) c _ (refl, fits-c) $ fjoin ! $ owned ! usize (Is usize) (uint-makes 𝓤 H A W w64) (d .side) _ (refl, fits-side) $ fjoin ! $
-        move ! (1 ∷ 0 ∷ []) $ fjoin ! $ move ! (2 ∷ 0 ∷ []) $ use2 W (raw (ReadEntry 𝓤 H A mem run .pre to)) asked $ frame ! $ done !)
+        move ! (1 ∷ 0 ∷ []) $ fjoin ! $ move ! (2 ∷ 0 ∷ []) $ use2 W (raw (ReadEntry 𝓤 H A mem run .pre asks)) allowed $ frame ! $ done !)
 
-    exits : (x : Float) (u : Val) → x ≡ answer → ent 𝓤 (⋆ 𝓤 H A (‵ (f64 .own x (u ∷ [])) ∷ (‵ (flft κ q) ⊛ ‵ ftrue) ∷ ‵ Own ∷ [])) (Post u)
-    exits x u e =
-        qed W (‵ (f64 .own x (u ∷ [])) ∷ (‵ (flft κ q) ⊛ ‵ ftrue) ∷ ‵ Own ∷ []) ∵
-        suffices ! _ (ends-at 𝓤 H A f.ended stayed (f.clauses 𝓤 H A mem run) W (((κ, tt), (q, tt), tt, (d, (c, (r, tt))), at), tt) u x (tt, (tt, (tt, tt))) (tt, (tt, (tt, tt)))) $ says ! e $
+    ends : (x : Float) (u : Val) → x ≡ answer → ent 𝓤 (⋆ 𝓤 H A (‵ (f64 .own x (u ∷ [])) ∷ (‵ (flft κ q) ⊛ ‵ ftrue) ∷ ‵ Held ∷ [])) (Post u)
+    ends x u e =
+        qed W (‵ (f64 .own x (u ∷ [])) ∷ (‵ (flft κ q) ⊛ ‵ ftrue) ∷ ‵ Held ∷ []) ∵
+        suffices ! _ (ends-at 𝓤 H A f.ended keeps (f.clauses 𝓤 H A mem run) W (((κ, tt), (q, tt), tt, (d, (c, (r, tt))), vals), tt) u x (tt, (tt, (tt, tt))) (tt, (tt, (tt, tt)))) $ says ! e $
         move ! (1 ∷ []) $ frame ! $ nothing ! $ owned ! usize (Is usize) (uint-makes 𝓤 H A W w64) r _ (refl, fits-r) $ fjoin ! $ owned ! usize (Is usize) (uint-makes 𝓤 H A W w64) c _ (refl, fits-c) $ fjoin ! $ move ! (2 ∷ 0 ∷ []) $ fjoin ! $ frame ! $ done !
 
     module _ (C : Calls 𝓤 H) (Λ : Loops 𝓤 H) (fm : FmC 𝓤 H (W .laws) C) (known : Triple 𝓤 (C #kernel·read-entry) (ReadEntry 𝓤 H A mem run)) where
-      walk : Holds (hasTy (T′.mir (named 0)) low) × WT low → ent 𝓤 (onEntry 𝓤 H A f.signature (κ, tt) (q, tt) (d, (c, (r, tt))) at) (WpFn 𝓤 H C Λ code.function (low ∷ vint w64 c ∷ vint w64 r ∷ []) Post)
+      walk : Holds (hasTy (T′.mir (named 0)) low) × WT low → ent 𝓤 (onEntry 𝓤 H A f.signature (κ, tt) (q, tt) (d, (c, (r, tt))) vals) (WpFn 𝓤 H C Λ code.function (low ∷ vint w64 c ∷ vint w64 r ∷ []) Post)
       walk typed =
-          qed W (raw (onEntry 𝓤 H A f.signature (κ, tt) (q, tt) (d, (c, (r, tt))) at) ∷ []) ∵ enter ! C Λ code.function (low ∷ vint w64 c ∷ vint w64 r ∷ []) _ $
+          qed W (raw (onEntry 𝓤 H A f.signature (κ, tt) (q, tt) (d, (c, (r, tt))) vals) ∷ []) ∵ enter ! C Λ code.function (low ∷ vint w64 c ∷ vint w64 r ∷ []) _ $
           alloc1 ! (λ l₀. alloc1 ! (λ l₁. alloc1 ! (λ l₂. alloc1 ! (λ l₃. alloc1 ! (λ l₄. alloc1 ! (λ l₅. alloc0 ! $ params1 ! $
           pass1 ! (init ! 8 refl typed) $ pass1 ! (init ! 6 refl (tt, record { fits = fits-c })) $ pass1 ! (init ! 4 refl (tt, record { fits = fits-r })) $ pass0 ! $
           assigns ! (of-opd ! (load ! (from ! (fld ! refl (stop !))) (look-in ! 8 (sub ! 0 refl (whole !))))) (from ! (stop !)) (init ! 2 refl (tt, typed .1 .0)) $
           assigns ! (of-opd ! (load ! (from ! (fld ! refl (stop !))) (look-in ! 8 (sub ! 1 refl (whole !))))) (from ! (stop !)) (init ! 0 refl (tt, typed .1 .1 .0)) $
-          move ! (12 ∷ []) $ use1 W (raw (ReadEntry 𝓤 H A mem run .pre to) ⊛ ‵ Own) (apart (typed .1 .1 .0 .fits)) $ split ! $
-          calls-at ! fm (ReadEntry 𝓤 H A mem run) known to
+          move ! (12 ∷ []) $ use1 W (raw (ReadEntry 𝓤 H A mem run .pre asks) ⊛ ‵ Held) (opened (typed .1 .1 .0 .fits)) $ split ! $
+          calls-at ! fm (ReadEntry 𝓤 H A mem run) known asks
           (and-then ! (load ! (from ! (stop !)) (look ! 4 refl)) (and-then ! (load ! (from ! (stop !)) (look ! 2 refl)) (and-then ! (load ! (from ! (stop !)) (look ! 8 refl)) (and-then ! (load ! (from ! (stop !)) (look ! 6 refl)) (no-more !))))) (λ u.
           use1 W (later (some (λ (x : Float). ((‵ (flft κ q) ⊛ ‵ ftrue) ⊛ ‵ (f64 .own x (u ∷ []))) ⊛ raw (ensured 𝓤 H A g.ended (g.clauses 𝓤 H A mem run) (κ, tt) (d .matrix, (d .side, (c, (r, tt)))) tt x)))) (id⊢ 𝓤 _) $ await ! tt $ pick ! (λ x.
-          split ! $ move ! (1 ∷ []) $ use1 W (raw (fact 𝓤 (x ≡ answer))) (said x) $ heard ! (x ≡ answer) (λ e. split ! $ move ! (1 ∷ []) $
+          split ! $ move ! (1 ∷ []) $ use1 W (raw (fact 𝓤 (x ≡ answer))) (told x) $ heard ! (x ≡ answer) (λ e. split ! $ move ! (1 ∷ []) $
           -- [the answer's; the token; the kept copy; _5; …; room for _0; …]
           peeks ! f64 (Is f64) (shows 𝓤 H A f64) x (u ∷ []) (λ is.
           land ! (from ! (stop !)) (init ! 13 refl (float-lawful 𝓤 H A W binary64 .typed x _ is .0)) $
           returns ! (look ! 13 refl) $ forget ! 3 refl $ forget ! 5 refl $ forget ! 7 refl $ forget ! 9 refl $ forget ! 11 refl $ forget ! 13 refl $
-          move ! (13 ∷ 14 ∷ []) $ free1 ! $ move ! (11 ∷ 12 ∷ []) $ free1 ! $ move ! (9 ∷ 10 ∷ []) $ free1 ! $ move ! (7 ∷ 8 ∷ []) $ free1 ! $ move ! (5 ∷ 6 ∷ []) $ free1 ! $ move ! (3 ∷ 4 ∷ []) $ free1 ! $ free0 ! $ by ! (exits x u e)))))))))))
+          move ! (13 ∷ 14 ∷ []) $ free1 ! $ move ! (11 ∷ 12 ∷ []) $ free1 ! $ move ! (9 ∷ 10 ∷ []) $ free1 ! $ move ! (7 ∷ 8 ∷ []) $ free1 ! $ move ! (5 ∷ 6 ∷ []) $ free1 ! $ move ! (3 ∷ 4 ∷ []) $ free1 ! $ free0 ! $ by ! (ends x u e)))))))))))
 
-  walks : (C : Calls 𝓤 H) (Λ : Loops 𝓤 H) → FmC 𝓤 H (W .laws) C → Triple 𝓤 (C #kernel·read-entry) (ReadEntry 𝓤 H A mem run) → Walks 𝓤 H A f.ended stayed (WpFn 𝓤 H C Λ code.function) (f.clauses 𝓤 H A mem run)
+  walks : (C : Calls 𝓤 H) (Λ : Loops 𝓤 H) → FmC 𝓤 H (W .laws) C → Triple 𝓤 (C #kernel·read-entry) (ReadEntry 𝓤 H A mem run) → Walks 𝓤 H A f.ended keeps (WpFn 𝓤 H C Λ code.function) (f.clauses 𝓤 H A mem run)
   walks C Λ fm known =
-      walked 𝓤 H A f.ended stayed (f.clauses 𝓤 H A mem run) (WpFn 𝓤 H C Λ code.function)
+      walked 𝓤 H A f.ended keeps (f.clauses 𝓤 H A mem run) (WpFn 𝓤 H C Λ code.function)
       (λ κs. (LL.vals (T.the-type (namedLft 1 0 tt κs)) (T′.the-laws (namedLft 1 0 tt κs)), (uint-vals w64, (uint-vals w64, tt))))
       (λ κs. (LL.tells (T.the-type (namedLft 1 0 tt κs)) (T′.the-laws (namedLft 1 0 tt κs)), (uint-tells w64, (uint-tells w64, tt))))
       (λ κs qs bounds a _ are. needs 𝓤 _ _ (λ within.
@@ -156,8 +156,8 @@ module _ {M : Type 1} (𝓤 : URA M) (H : Heap 𝓤) (A : Atoms 𝓤) (W : Given
 
   meets : (𝓣 : Tables 𝓤 H) → Triple 𝓤 (𝓣 .C #kernel·read-entry) (ReadEntry 𝓤 H A mem run) → Meets 𝓤 H A f.signature (WpFn 𝓤 H (𝓣 .C) (𝓣 .Λ) code.function) (f.spec 𝓤 H A mem run)
   meets 𝓣 known =
-      walk-meets 𝓤 H A f.ended stayed W
-      (goes-none 𝓤 H A W 1 B yes (λ κs x e. refl), (goes-none 𝓤 H A W 1 (λ _. usize) yes (λ κs x e. refl), (goes-none 𝓤 H A W 1 (λ _. usize) yes (λ κs x e. refl), tt)))
+      walk-meets 𝓤 H A f.ended keeps W
+      (goes-none 𝓤 H A W 1 Row yes (λ κs x e. refl), (goes-none 𝓤 H A W 1 (λ _. usize) yes (λ κs x e. refl), (goes-none 𝓤 H A W 1 (λ _. usize) yes (λ κs x e. refl), tt)))
       (f.clauses 𝓤 H A mem run) (WpFn 𝓤 H (𝓣 .C) (𝓣 .Λ) code.function) (WpFn-mono 𝓤 H (W .laws) 𝓣 code.function) (walks (𝓣 .C) (𝓣 .Λ) (fmOf 𝓤 H (W .laws) 𝓣) known)
 
 pub entry-of-spec : {M : Type 1} → stated.statement M

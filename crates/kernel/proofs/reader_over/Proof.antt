@@ -41,13 +41,13 @@ use Rattle.kernel.proofs.reader_over.Key.{name as #kernel·reader-over}
 use Rattle.kernel.proofs.reader_over.Statement as stated
 use Rattle.kernel.proofs.reader_over.Code as code
 
-abbrev stayed : Stays (f.ended .signature .params) (f.ended .kept)
-stayed = (stay-none-slice (0 ∷ []) tt (plain (λ _. u8)) yes, (stay-none (λ _. usize) yes, tt))
+abbrev keeps : Stays (f.ended .signature .params) (f.ended .kept)
+keeps = (stay-none-slice (0 ∷ []) tt (plain (λ _. u8)) yes, (stay-none (λ _. usize) yes, tt))
 
 module _ {M : Type 1} (𝓤 : URA M) (H : Heap 𝓤) (A : Atoms 𝓤) (W : Given 𝓤 H A) (mem : Memory → SProp 𝓤) (run : Routine → Fun 𝓤) where
   module _ (κ : Lft) (q : Share) (m : RefT (List ℕ)) (side : ℕ) (fits-side : side < 2 ^ 64) where
-    abbrev α : NamedLft
-    α = namedLft 1 0 tt (κ, tt)
+    abbrev life : NamedLft
+    life = namedLft 1 0 tt (κ, tt)
 
     abbrev slice : Val
     slice = sliceVal (m .ptr) (length (m .now))
@@ -55,41 +55,41 @@ module _ {M : Type 1} (𝓤 : URA M) (H : Heap 𝓤) (A : Atoms 𝓤) (W : Given
     abbrev reader : Reader
     reader = record { matrix = m; side = side }
 
-    abbrev at : Vals f.signature (κ, tt)
-    at = (slice ∷ [], (vint w64 side ∷ [], tt))
+    abbrev vals : Vals f.signature (κ, tt)
+    vals = (slice ∷ [], (vint w64 side ∷ [], tt))
 
     abbrev Post : Val → SProp 𝓤
-    Post = walkOf 𝓤 H A f.ended stayed (f.clauses 𝓤 H A mem run) .post (((κ, tt), (q, tt), tt, (m, (side, tt)), at), tt)
+    Post = walkOf 𝓤 H A f.ended keeps (f.clauses 𝓤 H A mem run) .post (((κ, tt), (q, tt), tt, (m, (side, tt)), vals), tt)
 
-    abbrev Own : Fml
-    Own = ShrSlice (named 0) κ u8 .own m (slice ∷ [])
+    abbrev Lent : Fml
+    Lent = ShrSlice (named 0) κ u8 .own m (slice ∷ [])
 
-    exits : ent 𝓤 (onEntry 𝓤 H A f.signature (κ, tt) (q, tt) (m, (side, tt)) at) (Post (T′.lowered reader))
-    exits =
-        qed W ((‵ (flft κ q) ⊛ ‵ ftrue) ∷ ‵ (owns (ShrSlice (named 0) κ u8 ∷ usize ∷ []) (m, (side, tt)) at) ∷ []) ∵
-        suffices ! _ (ends-at 𝓤 H A f.ended stayed (f.clauses 𝓤 H A mem run) W (((κ, tt), (q, tt), tt, (m, (side, tt)), at), tt) (T′.lowered reader) reader (tt, (tt, tt)) (tt, (tt, tt))) $ says ! (refl, refl) $
-        frame ! $ fsplit ! $ use1 W (‵ Own ⊛ ‵ Own) (shr-slice-copy 𝓤 H A W (named 0) κ u8 .twice m (slice ∷ [])) $ split ! $ move ! (0 ∷ 2 ∷ []) $ fjoin ! $ frame ! $
+    ends : ent 𝓤 (onEntry 𝓤 H A f.signature (κ, tt) (q, tt) (m, (side, tt)) vals) (Post (T′.lowered reader))
+    ends =
+        qed W ((‵ (flft κ q) ⊛ ‵ ftrue) ∷ ‵ (owns (ShrSlice (named 0) κ u8 ∷ usize ∷ []) (m, (side, tt)) vals) ∷ []) ∵
+        suffices ! _ (ends-at 𝓤 H A f.ended keeps (f.clauses 𝓤 H A mem run) W (((κ, tt), (q, tt), tt, (m, (side, tt)), vals), tt) (T′.lowered reader) reader (tt, (tt, tt)) (tt, (tt, tt))) $ says ! (refl, refl) $
+        frame ! $ fsplit ! $ use1 W (‵ Lent ⊛ ‵ Lent) (shr-slice-copy 𝓤 H A W (named 0) κ u8 .twice m (slice ∷ [])) $ split ! $ move ! (0 ∷ 2 ∷ []) $ fjoin ! $ frame ! $
         -- the copy and the side together are what the reader owns
-        nothing ! $ owned ! usize (Is usize) (uint-makes 𝓤 H A W w64) side _ (refl, fits-side) $ fjoin ! $ move ! (1 ∷ 0 ∷ []) $ fjoin ! $ by ! (own-shut 𝓤 H A W (T.the-type α) (T′.the-laws α) (m, (side, tt)))
+        nothing ! $ owned ! usize (Is usize) (uint-makes 𝓤 H A W w64) side _ (refl, fits-side) $ fjoin ! $ move ! (1 ∷ 0 ∷ []) $ fjoin ! $ by ! (own-shut 𝓤 H A W (T.the-type life) (T′.the-laws life) (m, (side, tt)))
 
     module _ (C : Calls 𝓤 H) (Λ : Loops 𝓤 H) (p : Is (ShrSlice (named 0) κ u8) m (slice ∷ [])) where
-      walk : ent 𝓤 (onEntry 𝓤 H A f.signature (κ, tt) (q, tt) (m, (side, tt)) at) (WpFn 𝓤 H C Λ code.function (slice ∷ vint w64 side ∷ []) Post)
+      walk : ent 𝓤 (onEntry 𝓤 H A f.signature (κ, tt) (q, tt) (m, (side, tt)) vals) (WpFn 𝓤 H C Λ code.function (slice ∷ vint w64 side ∷ []) Post)
       walk =
           let typed = shr-slice-lawful 𝓤 H A W (named 0) κ u8 .typed m (slice ∷ []) p .0 in
-          qed W (raw (onEntry 𝓤 H A f.signature (κ, tt) (q, tt) (m, (side, tt)) at) ∷ []) ∵ enter ! C Λ code.function (slice ∷ vint w64 side ∷ []) _ $
+          qed W (raw (onEntry 𝓤 H A f.signature (κ, tt) (q, tt) (m, (side, tt)) vals) ∷ []) ∵ enter ! C Λ code.function (slice ∷ vint w64 side ∷ []) _ $
           alloc1 ! (λ l₀. alloc1 ! (λ l₁. alloc1 ! (λ l₂. alloc0 ! $ params1 ! $ pass1 ! (init ! 2 refl typed) $ pass1 ! (init ! 0 refl (tt, record { fits = fits-side })) $ pass0 ! $
           assigns ! (agg ! (and-then ! (load ! (from ! (stop !)) (look ! 2 refl)) (and-then ! (load ! (from ! (stop !)) (look ! 0 refl)) (no-more !)))) (from ! (stop !)) (init ! 4 refl (tt, (typed .1, (record { fits = fits-side }, tt)))) $
-          returns ! (look ! 4 refl) $ forget ! 0 refl $ forget ! 2 refl $ forget ! 4 refl $ move ! (4 ∷ 5 ∷ []) $ free1 ! $ move ! (2 ∷ 3 ∷ []) $ free1 ! $ free1 ! $ free0 ! $ by ! exits)))
+          returns ! (look ! 4 refl) $ forget ! 0 refl $ forget ! 2 refl $ forget ! 4 refl $ move ! (4 ∷ 5 ∷ []) $ free1 ! $ move ! (2 ∷ 3 ∷ []) $ free1 ! $ free1 ! $ free0 ! $ by ! ends)))
 
-  walks : (C : Calls 𝓤 H) (Λ : Loops 𝓤 H) → Walks 𝓤 H A f.ended stayed (WpFn 𝓤 H C Λ code.function) (f.clauses 𝓤 H A mem run)
+  walks : (C : Calls 𝓤 H) (Λ : Loops 𝓤 H) → Walks 𝓤 H A f.ended keeps (WpFn 𝓤 H C Λ code.function) (f.clauses 𝓤 H A mem run)
   walks C Λ =
-      walked 𝓤 H A f.ended stayed (f.clauses 𝓤 H A mem run) (WpFn 𝓤 H C Λ code.function)
+      walked 𝓤 H A f.ended keeps (f.clauses 𝓤 H A mem run) (WpFn 𝓤 H C Λ code.function)
       (λ κs. (slice-vals, (uint-vals w64, tt))) (λ κs. (shr-slice-tells (named 0) (κs .0) u8, (uint-tells w64, tt)))
       (λ κs qs bounds a g are. via 𝓤 _ (fst∗ 𝓤 _ (emp 𝓤)) (walk (κs .0) (qs .0) (a .0) (a .1 .0) (are .1 .0 .1) C Λ (are .0)))
 
   meets : (𝓣 : Tables 𝓤 H) → Meets 𝓤 H A f.signature (WpFn 𝓤 H (𝓣 .C) (𝓣 .Λ) code.function) (f.spec 𝓤 H A mem run)
   meets 𝓣 =
-      walk-meets 𝓤 H A f.ended stayed W
+      walk-meets 𝓤 H A f.ended keeps W
       (goes-none-slice 𝓤 H A W 1 (0 ∷ []) tt (plain (λ _. u8)) yes, (goes-none 𝓤 H A W 1 (λ _. usize) yes (λ κs x e. refl), tt))
       (f.clauses 𝓤 H A mem run) (WpFn 𝓤 H (𝓣 .C) (𝓣 .Λ) code.function) (WpFn-mono 𝓤 H (W .laws) 𝓣 code.function) (walks (𝓣 .C) (𝓣 .Λ))
 
