@@ -1,4 +1,4 @@
-// The lent kernel matrix, over plain slices.
+// The lent kernel matrix. A reader answers each entry; what other crates call takes plain slices.
 ghost use mathlib.Core.Bool.{Bool};
 ghost use mathlib.Core.Path.{_≡_};
 ghost use Prim.Native.Nat.{_+_, _*_, _≤_, _<_};
@@ -12,12 +12,40 @@ pub enum Kind {
     OneClass,
 }
 
+// The lent matrix and its side. Functions over a reader are proved by hand, so it doesn't leave this file.
+struct Reader<'a> {
+    matrix: &'a [u8],
+    side: usize,
+}
+
+fn reader_over<'a>(matrix: &'a [u8], side: usize) -> Reader<'a>
+    ensures { λ reader. ⌜ (reader .matrix ≡ matrix .entry) × (reader .side ≡ side) ⌝ }
+{
+    Reader { matrix, side }
+}
+
+// A reader's work, over the plain slice.
+fn read_entry(m: &[u8], side: usize, c: usize, r: usize) -> f64
+    requires { ⌜ (Matrix side (now m)) × (c < side) × (r < side) ⌝ }
+    ensures { λ x. ⌜ x ≡ entryAt side (now (m .entry)) c r ⌝ }
+{
+    f64::from_bits(wire::word_at(m, 8 * (c * side + r)))
+}
+
+// The reader's entry of column c, row r.
+fn entry_of<'a>(reader: Reader<'a>, c: usize, r: usize) -> f64
+    requires { ⌜ (Matrix (reader .side) (now (reader .matrix))) × (c < reader .side) × (r < reader .side) ⌝ }
+    ensures { λ x. ⌜ x ≡ entryAt (reader .entry .side) (now (reader .entry .matrix)) c r ⌝ }
+{
+    read_entry(reader.matrix, reader.side, c, r)
+}
+
 // The entry of column c, row r, of a matrix of side·side entries.
 pub fn entry(m: &[u8], side: usize, c: usize, r: usize) -> f64
     requires { ⌜ (Matrix side (now m)) × (c < side) × (r < side) ⌝ }
     ensures { λ x. ⌜ x ≡ entryAt side (now (m .entry)) c r ⌝ }
 {
-    f64::from_bits(wire::word_at(m, 8 * (c * side + r)))
+    entry_of(reader_over(m, side), c, r)
 }
 
 // The kernel index of position k.
