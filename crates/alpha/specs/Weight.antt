@@ -1,11 +1,20 @@
 -- One weight with its ceiling, and what is asked of it (the rule, section 'Alpha').
 use mathlib.Core.Bool.{Bool, _&&_, cond}
-use lib.Ieee.{Float, binary64, ofBits, lt, le, eq}
+use lib.Ieee.{Float, binary64, ofBits, neg, lt, le, eq}
 use Rattle.alpha.specs.declared.Alpha.{Alpha}
 
 -- +0
 abbrev pub zero : Float
 zero = ofBits binary64 0
+
+abbrev pub one : Float
+one = ofBits binary64 0x3ff0_0000_0000_0000
+
+abbrev pub minusOne : Float
+minusOne = neg one
+
+abbrev pub two : Float
+two = ofBits binary64 0x4000_0000_0000_0000
 
 -- the f64 nearest to 1e-10: stands for a curvature that isn't above 0
 abbrev pub floor : Float

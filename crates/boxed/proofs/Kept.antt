@@ -4,14 +4,15 @@ use lib.Ieee.{Float, binary64}
 use lib.Ieee.Fits.{div-fits}
 use Rattle.alpha.specs.declared.Alpha.{Alpha}
 use Rattle.rounding.specs.Units.{Real}
-use Rattle.update.specs.Pair.{pair, curvature, floored, stepOf, pairOf}
+use Rattle.kernel.specs.Curvature.{curved}
+use Rattle.update.specs.Pair.{pair, floored, stepOf, pairOf}
 use Rattle.boxed.specs.Range.{Ceiling, Held, BothHeld, Entry, Divides, Chosen}
 use Rattle.boxed.proofs.Clip.{stepped-held}
 use Rattle.boxed.proofs.Step.{curvature-divides, step-real}
 
 module _ (b : Float) (c : Ceiling b) (wi wj : Alpha) (hi : Held b wi) (hj : Held b wj) (gi gj di dj r : Float) (agree : Bool) (floor : Float) where
   -- whatever the gradients and the entries are, where the step is no NaN
-  pub pair-held : Real (stepOf agree gi gj (floored floor (curvature agree di dj r))) → BothHeld b (pairOf wi wj gi gj di dj r agree floor)
+  pub pair-held : Real (stepOf agree gi gj (floored floor (curved agree di dj r))) → BothHeld b (pairOf wi wj gi gj di dj r agree floor)
   unfolding pairOf
   pair-held h =
       stepped-held b c agree (pair wi wj) _ (record { i = hi; j = hj }) (record { fit = unfold stepOf in div-fits binary64 _ _; real = h })

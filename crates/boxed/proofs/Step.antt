@@ -6,14 +6,15 @@ use lib.Dec.{T, lit<}
 use lib.Ieee.{Float, nan, inf, fin, binary64, neg, add, sub, mul, lt, le}
 use lib.Ieee.Fits.{add-fits}
 use lib.Ieee.Scale.{finite}
-use Rattle.alpha.specs.Weight.{zero, limit}
+use Rattle.alpha.specs.Weight.{zero, two, limit}
 use Rattle.alpha.specs.Weight as Weight
 use Rattle.rounding.specs.Units.{Real, Within}
 use Rattle.rounding.proofs.Order.{neg-neg, le-real, lt-real, not-le}
 use Rattle.rounding.proofs.Units.{neg-parts, zero-parts}
 use Rattle.rounding.proofs.NoNan.{within-of, within-add, within-sub, within-twice, within-finite, div-real, sub-real}
 use Rattle.rounding.proofs.Binary64.{limit-parts, floor-above, zero-is, two-is}
-use Rattle.update.specs.Pair.{two, curvature, floored, stepOf}
+use Rattle.kernel.specs.Curvature.{curved}
+use Rattle.update.specs.Pair.{floored, stepOf}
 use Rattle.boxed.specs.Range.{Entry, Divides, Chosen}
 
 -- ---- the divisor
@@ -24,8 +25,8 @@ entry-within x e = within-of binary64 2074 limit x limit-parts (record { fit = e
 twice-within : (r : Float) → Entry r → Within binary64 2075 (mul binary64 two r)
 twice-within r e = rw two-is (within-twice binary64 2074 r (lit< tt) (entry-within r e))
 
-curvature-within : (agree : Bool) (di dj r : Float) → Entry di → Entry dj → Entry r → Within binary64 2076 (curvature agree di dj r)
-unfolding curvature
+curvature-within : (agree : Bool) (di dj r : Float) → Entry di → Entry dj → Entry r → Within binary64 2076 (curved agree di dj r)
+unfolding curved
 curvature-within agree di dj r ei ej e = go agree
   where
     sum : Within binary64 2075 (add binary64 di dj)
@@ -47,8 +48,8 @@ floored-divides floor q d w = go (le q zero) (λ n. not-le q zero (w .number .re
     go false h = record { finite = within-finite binary64 2076 q (lit< tt) w; above = h tt }
 
 -- entries of magnitude 2^1000 at the most have a curvature that is finite and, floored, above 0
-pub curvature-divides : (agree : Bool) (di dj r floor : Float) → Entry di → Entry dj → Entry r → Divides floor → Divides (floored floor (curvature agree di dj r))
-curvature-divides agree di dj r floor ei ej e d = floored-divides floor (curvature agree di dj r) d (curvature-within agree di dj r ei ej e)
+pub curvature-divides : (agree : Bool) (di dj r floor : Float) → Entry di → Entry dj → Entry r → Divides floor → Divides (floored floor (curved agree di dj r))
+curvature-divides agree di dj r floor ei ej e d = floored-divides floor (curved agree di dj r) d (curvature-within agree di dj r ei ej e)
 
 -- the rule's own floor
 pub floor-divides : Divides Weight.floor

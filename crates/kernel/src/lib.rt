@@ -3,6 +3,7 @@ ghost use mathlib.Core.Bool.{Bool};
 ghost use mathlib.Core.Path.{_≡_};
 ghost use Prim.Native.Nat.{_+_, _*_, _≤_, _<_};
 ghost use lib.ListN.{length};
+ghost use Rattle.kernel.specs.Curvature.{curved};
 ghost use Rattle.kernel.specs.Matrix.{entryAt, Matrix};
 ghost use Rattle.kernel.specs.Row.{kernelIndex, Indexed, alikeOf, signedOf, reachOf, rowAt, rowTo};
 
@@ -135,5 +136,16 @@ pub fn distances(
     let a = y[i];
     for k in 0..count {
         f[6 * n + k] = reach(kind, m, side, c, a, u, n, y, k);
+    }
+}
+
+// The curvature of a pair before the floor: di and dj are the diagonals, r is the entry of row i at j.
+pub fn quad_coef(agree: bool, di: f64, dj: f64, r: f64) -> f64
+    ensures { λ q. ⌜ q ≡ curved agree di dj r ⌝ }
+{
+    if agree {
+        di + dj - 2.0 * r
+    } else {
+        di + dj + 2.0 * r
     }
 }

@@ -8,7 +8,7 @@ ghost use Rattle.extreme.specs.Best.{Below};
 ghost use Rattle.kernel.specs.Row.{Indexed};
 ghost use Rattle.state.specs.Lists.{problem, state, Ready};
 ghost use Rattle.partner.specs.Sides.{risesOf, fallsOf, riseOf, fallOf};
-ghost use Rattle.partner.specs.Curvature.{curved, curvature, gapOf, gain};
+ghost use Rattle.partner.specs.Curvature.{curvature, gapOf, gain};
 ghost use Rattle.partner.specs.Second.{leads, second, paired, choice};
 ghost use Rattle.partner.specs.Lead.{leadAt, curveOf, weighedAfter};
 use alpha::Alpha;
@@ -45,21 +45,10 @@ pub fn fall_of(pos: bool, g: f64) -> f64
     if pos { g } else { -g }
 }
 
-// The curvature of a pair before the floor.
-pub fn curved_of(a: f64, b: f64, r: f64, agree: bool) -> f64
-    ensures { λ q. ⌜ q ≡ curved a b r agree ⌝ }
-{
-    if agree {
-        a + b - 2.0 * r
-    } else {
-        a + b + 2.0 * r
-    }
-}
-
 fn curvature_of(floor: f64, a: f64, b: f64, r: f64, agree: bool) -> f64
     ensures { λ q. ⌜ q ≡ curvature floor a b r agree ⌝ }
 {
-    let q = curved_of(a, b, r, agree);
+    let q = kernel::quad_coef(agree, a, b, r);
     if q > 0.0 { q } else { floor }
 }
 

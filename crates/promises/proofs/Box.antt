@@ -94,7 +94,9 @@ module _ {k : Fit} {m : List ℕ} {budget : ℕ} {d : Lent} {o : Whole} (v : Ser
   served-home-box s h =
       let w = trained g m (k .ceilings) budget (startFrom k m d) in
       let q = travelled-trained g m (k .ceilings) budget (startFrom k m d) (ready-start v) (fresh-start v) .order in
-      rw (sym (weight-loaded (g .n) (k .ceilings) (k .weights) (k .terms) (d .floats) (v .room .floats) (g .n) s (omega arith) h),
-      sym (trained-home g m (k .ceilings) budget (startFrom k m d) (ready-start v) (fresh-start v) (d .home) (v .room .home) s h),
-      home-at nan (w .state .numbers) (weightIn (g .n) (w .state .floats)) (d .home) (g .n) s (v .room .home) q h)
+      rw (
+        sym (weight-loaded (g .n) (k .ceilings) (k .weights) (k .terms) (d .floats) (v .room .floats) (g .n) s (omega arith) h),
+        sym (trained-home g m (k .ceilings) budget (startFrom k m d) (ready-start v) (fresh-start v) (d .home) (v .room .home) s h),
+        home-at nan (w .state .numbers) (weightIn (g .n) (w .state .floats)) (d .home) (g .n) s (v .room .home) q h,
+      )
       (box-trained g m one-ceiling (startFrom k m d) lent budget (q .place s) (q .inside s h))

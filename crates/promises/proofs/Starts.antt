@@ -148,8 +148,11 @@ module _ (f : Format) where
         let x = product-within in
         let p = pow-pos (low f) in
         let m : 0 < magnitude f two = rw (magnitude-is f two) (omega (arith, t)) in
-        rw (div-units f product two (x .number) (t .number) (finite-parts f product (x .number) .1 (omega (arith, x))) (finite-parts f two (t .number) .1 (omega (arith, t))) m,
-        not-negative product (x .some), not-negative two (omega (arith, t)))
+        rw (
+          div-units f product two (x .number) (t .number) (finite-parts f product (x .number) .1 (omega (arith, x))) (finite-parts f two (t .number) .1 (omega (arith, t))) m,
+          not-negative product (x .some),
+          not-negative two (omega (arith, t)),
+        )
         (some-round (magnitude f product) (magnitude f two) m)
 
     -- what is left of it above its whole part k lies in 0..1

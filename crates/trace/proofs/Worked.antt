@@ -9,6 +9,7 @@ use lib.Ieee as Ieee
 use Rattle.alpha.specs.Weight.{floor}
 use Rattle.choose_c.specs.Choice.{extremesC, choiceC}
 use Rattle.extreme.specs.Best.{best}
+use Rattle.kernel.specs.Curvature.{curved}
 use Rattle.kernel.specs.Row.{rowAt}
 use Rattle.kernel.specs.declared.Kind.the-variants.{TwoClass}
 use Rattle.partner.specs.Curvature as Curvature
@@ -77,5 +78,5 @@ steps =
 
 -- the sixth pass finds no pair at either look
 pub worked : traced given matrix ceilings (startOf given matrix ceilings lent) 7 ≡ steps
-unfolding traced added stepsOf pairFrom pairOn lookBy runs next passed onward workedBy looked Pass.stepped countedDown shrunk walkedFrom restored topsOf walked visited dropped exchanged fallen moved swappedFields swapped dropsAt dropsBy rebuilt chosen goes period choiceC extremesC choice second best Curvature.curvature rowAt digits rowAdded started gatheredTo joinedBy diagonalTo laidTo reconstructed branched innerTo innerBy outerTo outerBy weightedTo freeTo counted freshTo updated carried settled turnedBy stored shiftedTo pairAt pairOf Pair.stepped agreed agreeSecond agreeFirst differed differHigh differLow jRaised iRaised jCapped iCapped stepOf floored Pair.curvature Ieee.lt Ieee.le Ieee.eq Ieee.neg Ieee.add Ieee.sub Ieee.mul Ieee.div Ieee.ofBits
+unfolding traced added stepsOf pairFrom pairOn lookBy runs next passed onward workedBy looked Pass.stepped countedDown shrunk walkedFrom restored topsOf walked visited dropped exchanged fallen moved swappedFields swapped dropsAt dropsBy rebuilt chosen goes period choiceC extremesC choice second best Curvature.curvature rowAt digits rowAdded started gatheredTo joinedBy diagonalTo laidTo reconstructed branched innerTo innerBy outerTo outerBy weightedTo freeTo counted freshTo updated carried settled turnedBy stored shiftedTo pairAt pairOf Pair.stepped agreed agreeSecond agreeFirst differed differHigh differLow jRaised iRaised jCapped iCapped stepOf floored curved Ieee.lt Ieee.le Ieee.eq Ieee.neg Ieee.add Ieee.sub Ieee.mul Ieee.div Ieee.ofBits
 worked = refl

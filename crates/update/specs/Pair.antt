@@ -1,12 +1,10 @@
 -- The clipped pair: what a step leaves of two weights (the rule, section 'Update'). Every operation is rounded once, in this order.
 use mathlib.Core.Bool.{Bool, cond}
-use lib.Ieee.{Float, binary64, ofBits, neg, add, sub, mul, div, lt, le}
+use lib.Ieee.{Float, binary64, neg, add, sub, div, lt, le}
 use Rattle.alpha.specs.Weight.{zero, weight}
 use Rattle.alpha.specs.declared.Alpha.{Alpha}
+use Rattle.kernel.specs.Curvature.{curved}
 use Rattle.update.specs.declared.Pair.{Pair}
-
-abbrev pub two : Float
-two = ofBits binary64 0x4000_0000_0000_0000
 
 abbrev pub pair : Alpha → Alpha → Pair
 pair wi wj = record { i = wi; j = wj }
@@ -16,12 +14,6 @@ abbrev pub holding : Pair → Float → Float → Pair
 holding p x y = pair (weight x (p .i .upper)) (weight y (p .j .upper))
 
 -- ---- the step
-
--- di and dj are the two diagonals, r is the entry of row i at j
-unfoldable pub curvature : Bool → Float → Float → Float → Float
-curvature agree di dj r =
-    let twice = mul binary64 two r in
-    cond agree (sub binary64 (add binary64 di dj) twice) (add binary64 (add binary64 di dj) twice)
 
 -- a NaN stays
 unfoldable pub floored : Float → Float → Float
@@ -80,4 +72,4 @@ stepped agree p delta = cond agree (agreed p delta) (differed p delta)
 
 unfoldable pub pairOf : Alpha → Alpha → Float → Float → Float → Float → Float → Bool → Float → Pair
 pairOf wi wj gi gj di dj r agree floor =
-    stepped agree (pair wi wj) (stepOf agree gi gj (floored floor (curvature agree di dj r)))
+    stepped agree (pair wi wj) (stepOf agree gi gj (floored floor (curved agree di dj r)))

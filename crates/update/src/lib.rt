@@ -7,7 +7,7 @@ ghost use Rattle.alpha.specs.Weight.{weight};
 ghost use Rattle.kernel.specs.Row.{kernelIndex, Indexed};
 ghost use Rattle.state.specs.Fields.{bound};
 ghost use Rattle.state.specs.Lists.{problem, state, Ready};
-ghost use Rattle.update.specs.Pair.{holding, curvature, floored, stepOf, iCapped, jCapped, iRaised, jRaised};
+ghost use Rattle.update.specs.Pair.{holding, floored, stepOf, iCapped, jCapped, iRaised, jRaised};
 ghost use Rattle.update.specs.Pair.{differLow, differHigh, differed, agreeFirst, agreeSecond, agreed, pairOf};
 ghost use Rattle.update.specs.Update.{pairAt, shiftedTo, signedBy, settled, carried, updated};
 use alpha::Alpha;
@@ -25,16 +25,6 @@ fn held(p: Pair, x: f64, y: f64) -> Pair
     Pair {
         i: Alpha::from(x, p.i.upper),
         j: Alpha::from(y, p.j.upper),
-    }
-}
-
-fn curve(agree: bool, di: f64, dj: f64, r: f64) -> f64
-    ensures { λ q. ⌜ q ≡ curvature agree di dj r ⌝ }
-{
-    if agree {
-        di + dj - 2.0 * r
-    } else {
-        di + dj + 2.0 * r
     }
 }
 
@@ -166,7 +156,12 @@ pub fn clipped_pair(
     ensures { λ p. ⌜ p ≡ pairOf wi wj gi gj di dj r agree floor ⌝ }
 {
     let p = Pair { i: wi, j: wj };
-    let delta = step(agree, gi, gj, divisor(floor, curve(agree, di, dj, r)));
+    let delta = step(
+        agree,
+        gi,
+        gj,
+        divisor(floor, kernel::quad_coef(agree, di, dj, r)),
+    );
     if agree {
         concur(p, delta)
     } else {

@@ -5,11 +5,11 @@ use Rattle.update.proofs.clipped_pair.Tie as tie
 
 returns : tie.Need-returns
 unfolding pairOf stepped
-returns c = rw (c .concur .ensures, c .before .before .step .ensures, c .before .before .before .divisor .ensures, c .before .before .before .before .curve .ensures, c .before .if1 .taken)
+returns c = rw (c .concur .ensures, c .before .before .step .ensures, c .before .before .before .divisor .ensures, c .before .before .before .before .quad-coef .ensures, c .before .if1 .taken)
 
 returns-2 : tie.Need-returns-2
 unfolding pairOf stepped
-returns-2 c = rw (c .differ .ensures, c .before .before .step .ensures, c .before .before .before .divisor .ensures, c .before .before .before .before .curve .ensures, c .before .if1 .left)
+returns-2 c = rw (c .differ .ensures, c .before .before .step .ensures, c .before .before .before .divisor .ensures, c .before .before .before .before .quad-coef .ensures, c .before .if1 .left)
 
 pub clipped-pair-spec : {M : Type 1} → statement M
 clipped-pair-spec =
