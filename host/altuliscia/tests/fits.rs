@@ -84,6 +84,7 @@ fn a_tail_of_five_is_refused_and_one_of_four_is_not() {
         (answer.iterations, answer.reason),
         (7, ExitReason::Threshold)
     );
+    assert_eq!(answer.obj, -379804.6640625);
 }
 
 #[test]
