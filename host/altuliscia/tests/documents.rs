@@ -46,4 +46,8 @@ fn the_readme_shows_the_sources() {
     let mut lines = readme.lines().filter(|l| l.contains("linfa-svm says"));
     assert!(lines.clone().count() == 3);
     assert!(lines.all(|l| told.contains(l.trim())));
+    let run = include_str!("../../../captions/cs-sk.expected");
+    let indented: Vec<String> = run.lines().map(|l| format!("    {}", l)).collect();
+    let shown: Vec<&str> = indented.iter().map(|l| l.trim_end()).collect();
+    assert!(shown.len() > 5 && readme.contains(&shown.join("\n")));
 }

@@ -1,0 +1,102 @@
+//! `captions pair FILE` trains one pair of languages; `captions table FOLDER` measures every pair.
+mod table;
+
+use altuliscia::{Options, Refusal};
+use captions::{language, measured, Figures, Sorted};
+use std::process::ExitCode;
+
+const HELP: &str = "captions pair FILE      trains the captions of one file and says how many held-out ones are sorted rightly
+captions table FOLDER   the same for every file of a folder, as the tables of docs/CAPTIONS.md
+
+captions/README.md says what the files are.";
+
+fn main() -> ExitCode {
+    let words: Vec<String> = std::env::args().skip(1).collect();
+    let words: Vec<&str> = words.iter().map(String::as_str).collect();
+    let told = match words[..] {
+        ["pair", path] => read(path).map(|figures| pair(&figures)),
+        ["table", folder] => table::table(folder),
+        _ => {
+            eprintln!("{}", HELP);
+            return ExitCode::from(2);
+        }
+    };
+    match told {
+        Ok(text) => {
+            print!("{}", text);
+            ExitCode::SUCCESS
+        }
+        Err(message) => {
+            eprintln!("{}", message);
+            ExitCode::FAILURE
+        }
+    }
+}
+
+fn read(path: &str) -> Result<Figures, String> {
+    let text = std::fs::read_to_string(path).map_err(|e| format!("{}: {}", path, e))?;
+    Figures::read(&text).map_err(|e| format!("{}: {}", path, e))
+}
+
+/// One training, and how it sorts.
+fn trained(f: &Figures, n: usize, c: f64, eps: f64, shrinking: bool) -> Result<Sorted, Refusal> {
+    let options = Options {
+        eps,
+        shrinking,
+        ..Options::default()
+    };
+    measured(f, n, c, &options)
+}
+
+fn percent(part: usize, whole: usize) -> String {
+    format!("{:.1} %", 100.0 * part as f64 / whole as f64)
+}
+
+/// One pair for a reader: both ceilings, shrinking off and on, both lists of weights.
+fn pair(f: &Figures) -> String {
+    let (n, held) = (f.train.len(), f.held.len());
+    let (first, second) = (language(&f.languages.0), language(&f.languages.1));
+    let mut lines = vec![
+        format!(
+            "{} or {}? {} captions to train on, {} others to sort.",
+            first, second, n, held
+        ),
+        String::new(),
+        "                       sorted rightly by".to_string(),
+        " C  shrinking   steps  each caption's own weight  the list that linfa-svm answers"
+            .to_string(),
+    ];
+    let mut told = Vec::new();
+    for c in [1.0, 10.0] {
+        for (shrinking, word) in [(false, "off"), (true, "on")] {
+            let rest = match trained(f, n, c, Options::default().eps, shrinking) {
+                Ok(sorted) => {
+                    if sorted.differ > 0 {
+                        told.push(format!(
+                            "C {}, shrinking {}: in that list {} of the {} weights are another caption's.",
+                            c, word, sorted.differ, n
+                        ));
+                    }
+                    counts(&sorted, held)
+                }
+                Err(refusal) => refusal.to_string(),
+            };
+            lines.push(format!("{:>2}  {:<9}  {}", c, word, rest));
+        }
+    }
+    if !told.is_empty() {
+        lines.push(String::new());
+        lines.append(&mut told);
+    }
+    lines.join("\n") + "\n"
+}
+
+fn counts(s: &Sorted, held: usize) -> String {
+    let count = |right: usize| format!("{:>4} ({})", right, percent(right, held));
+    format!(
+        "{:>6}  {:<25}  {}",
+        s.steps,
+        count(s.home),
+        count(s.crate_reading)
+    )
+}
