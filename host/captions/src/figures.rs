@@ -113,6 +113,30 @@ impl Figures {
         let pairs = self.train[..n].iter().zip(&held.products);
         pairs.map(|(t, p)| value(*p, held.own, t.own)).collect()
     }
+
+    /// The first n training captions in LIBSVM's format for a precomputed kernel.
+    pub fn libsvm_train(&self, n: usize) -> String {
+        let matrix = self.matrix(n);
+        let rows = self.train[..n].iter().zip(matrix.chunks(n)).enumerate();
+        rows.map(|(k, (caption, row))| line(caption.first, k + 1, row))
+            .collect()
+    }
+
+    /// The held-out captions in the same format, with their kernel values with the first n training captions.
+    pub fn libsvm_held(&self, n: usize) -> String {
+        let held = self.held.iter().enumerate();
+        held.map(|(k, caption)| line(caption.first, k + 1, &self.values(caption, n)))
+            .collect()
+    }
+}
+
+/// A line of LIBSVM's. A value is written so that reading it gives the same bits.
+fn line(first: bool, serial: usize, values: &[f64]) -> String {
+    let entries = values.iter().enumerate();
+    let entries: String = entries
+        .map(|(k, x)| format!(" {}:{:?}", k + 1, x))
+        .collect();
+    format!("{} 0:{}{}\n", u8::from(first), serial, entries)
 }
 
 #[cfg(test)]
@@ -138,6 +162,11 @@ held 1
         assert_eq!(figures.labels(2), [true, false]);
         assert_eq!(figures.values(&figures.held[0], 2), [1.0, 1.0]);
         assert_eq!(value(1, 2, 1), 1.0 / 2.0_f64.sqrt());
+        assert_eq!(
+            figures.libsvm_train(2),
+            "1 0:1 1:1.0 2:0.5\n0 0:2 1:0.5 2:1.0\n"
+        );
+        assert_eq!(figures.libsvm_held(2), "1 0:1 1:1.0 2:1.0\n");
     }
 
     #[test]

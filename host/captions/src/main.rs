@@ -1,12 +1,13 @@
-//! `captions pair FILE` trains one pair of languages; `captions table FOLDER` measures every pair.
+//! Trains on captions and says how the held-out ones are sorted. HELP has the commands.
 mod table;
 
 use altuliscia::{Options, Refusal};
 use captions::{language, measured, Figures, Sorted};
 use std::process::ExitCode;
 
-const HELP: &str = "captions pair FILE      trains the captions of one file and says how many held-out ones are sorted rightly
-captions table FOLDER   the same for every file of a folder, as the tables of docs/CAPTIONS.md
+const HELP: &str = "captions pair FILE          trains the captions of one file and says how many held-out ones are sorted rightly
+captions table FOLDER       the same for every file of a folder, as the tables of docs/CAPTIONS.md
+captions libsvm FILE NAME   writes them as NAME.train and NAME.held, in LIBSVM's format for a precomputed kernel
 
 captions/README.md says what the files are.";
 
@@ -16,6 +17,7 @@ fn main() -> ExitCode {
     let told = match words[..] {
         ["pair", path] => read(path).map(|figures| pair(&figures)),
         ["table", folder] => table::table(folder),
+        ["libsvm", path, name] => read(path).and_then(|figures| libsvm(&figures, name)),
         _ => {
             eprintln!("{}", HELP);
             return ExitCode::from(2);
@@ -36,6 +38,15 @@ fn main() -> ExitCode {
 fn read(path: &str) -> Result<Figures, String> {
     let text = std::fs::read_to_string(path).map_err(|e| format!("{}: {}", path, e))?;
     Figures::read(&text).map_err(|e| format!("{}: {}", path, e))
+}
+
+fn libsvm(f: &Figures, name: &str) -> Result<String, String> {
+    let n = f.train.len();
+    for (end, text) in [("train", f.libsvm_train(n)), ("held", f.libsvm_held(n))] {
+        let path = format!("{}.{}", name, end);
+        std::fs::write(&path, text).map_err(|e| format!("{}: {}", path, e))?;
+    }
+    Ok(String::new())
 }
 
 /// One training, and how it sorts.
