@@ -33,6 +33,7 @@ fn the_readme_shows_the_sources() {
     for (kind, source) in [
         ("c", include_str!("../../example/example.c")),
         ("rust", include_str!("../src/lib.rs")),
+        ("python", include_str!("../../python/altuliscia.py")),
     ] {
         let strip = |l: &'static str| l.trim_start_matches("//!").trim();
         let source: Vec<&str> = source.lines().map(strip).collect();
