@@ -258,6 +258,18 @@ fn where_nothing_can_be_written_nothing_is() {
     assert_eq!(fs::read_dir(&f).unwrap().count(), 1);
 }
 
+/// The old file isn't written into: another name of it still has the old text.
+#[test]
+fn a_model_takes_the_place_of_the_old_one() {
+    let f = folder("replaced");
+    let (path, model) = (file(&f, "a", SMALL.as_bytes()), file(&f, "model", b"old"));
+    fs::hard_link(&model, f.join("kept")).unwrap();
+    told("train FILE MODEL", &path, &model).unwrap();
+    assert_eq!(fs::read(f.join("kept")).unwrap(), b"old");
+    assert!(fs::read(&model).unwrap().starts_with(b"svm_type"));
+    assert_eq!(fs::read_dir(&f).unwrap().count(), 3);
+}
+
 #[cfg(unix)]
 #[test]
 fn a_link_stays_a_link_and_a_device_a_device() {
