@@ -4,13 +4,14 @@ use std::fs::{self, OpenOptions};
 use std::io::{self, Write};
 use std::path::{Path, PathBuf};
 
-/// Writes a file beside the one that is meant, then gives it that one's name. What isn't a file (a device, a pipe) is written as it is.
+/// Writes a file beside the one that is meant, then gives it that one's name. A link stays a link, and what isn't a file (a device,
+/// a pipe) is written as it is.
 pub fn whole(path: &str, text: &str) -> Result<(), Trouble> {
-    let done = match fs::metadata(path) {
-        Ok(known) if !known.is_file() => fs::write(path, text),
-        // A link stays a link.
-        Ok(_) => fs::canonicalize(path).and_then(|target| renamed(&target, text)),
-        Err(_) => renamed(Path::new(path), text),
+    let plain = fs::metadata(path).map_or(true, |known| known.is_file());
+    let target = fs::canonicalize(path).unwrap_or_else(|_| PathBuf::from(path));
+    let done = match plain {
+        true => renamed(&target, text),
+        false => fs::write(path, text),
     };
     done.map_err(|e| Trouble::writing(path, &e))
 }
