@@ -162,13 +162,13 @@ class Captions(unittest.TestCase):
         return matrix, [row[0] for row in train], values, [row[0] for row in held]
 
     def test_as_told(self):
-        for name, count in (("cs-sk", 4), ("da-sv", 3)):
+        for name, count in (("cs-sk", 8), ("da-sv", 7)):
             matrix, labels, values, truth = self.figures(name)
-            pattern = r"^ *(\d+)  (on|off) +(\d+) +(\d+) \(.*?\) +(\d+) \("
+            pattern = r"^(1e-\d)  +(\d+)  (on|off) +(\d+) +(\d+) \(.*?\) +(\d+) \("
             told = re.findall(pattern, read(f"captions/{name}.expected"), re.MULTILINE)
             self.assertEqual(len(told), count)
-            for c, shrinking, steps, home, other in told:
-                fit = fit_c(matrix, labels, float(c), float(c), shrinking=shrinking == "on")
+            for eps, c, shrinking, steps, home, other in told:
+                fit = fit_c(matrix, labels, float(c), float(c), eps=float(eps), shrinking=shrinking == "on")
                 self.assertEqual(fit.n_iter_, [int(steps)])
                 for weights, right in ((fit.home, home), (fit.crate_reading, other)):
                     fit.home = weights

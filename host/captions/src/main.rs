@@ -63,7 +63,10 @@ fn percent(part: usize, whole: usize) -> String {
     format!("{:.1} %", 100.0 * part as f64 / whole as f64)
 }
 
-/// One pair for a reader: both ceilings, shrinking off and on, both lists of weights.
+/// The usual threshold of `linfa-svm`, then that of LIBSVM. What a run finds may hang on it, so both are always shown.
+const THRESHOLDS: [f64; 2] = [1e-7, 1e-3];
+
+/// One pair for a reader: both thresholds, both ceilings, shrinking off and on, both lists of weights.
 fn pair(f: &Figures) -> String {
     let (n, held) = (f.train.len(), f.held.len());
     let (first, second) = (language(&f.languages.0), language(&f.languages.1));
@@ -73,26 +76,29 @@ fn pair(f: &Figures) -> String {
             first, second, n, held
         ),
         String::new(),
-        "                       sorted rightly by".to_string(),
-        " C  shrinking   steps  each caption's own weight  the list that linfa-svm answers"
+        "                             sorted rightly by".to_string(),
+        " eps   C  shrinking   steps  each caption's own weight  the list that linfa-svm answers"
             .to_string(),
     ];
     let mut told = Vec::new();
-    for c in [1.0, 10.0] {
+    for (eps, c) in THRESHOLDS
+        .iter()
+        .flat_map(|eps| [(*eps, 1.0), (*eps, 10.0)])
+    {
         for (shrinking, word) in [(false, "off"), (true, "on")] {
-            let rest = match trained(f, n, c, Options::default().eps, shrinking) {
+            let rest = match trained(f, n, c, eps, shrinking) {
                 Ok(sorted) => {
                     if sorted.differ > 0 {
                         told.push(format!(
-                            "C {}, shrinking {}: in that list {} of the {} weights are another caption's.",
-                            c, word, sorted.differ, n
+                            "eps {:e}, C {}, shrinking {}: in that list {} of the {} weights are another caption's.",
+                            eps, c, word, sorted.differ, n
                         ));
                     }
                     counts(&sorted, held)
                 }
                 Err(refusal) => refusal.to_string(),
             };
-            lines.push(format!("{:>2}  {:<9}  {}", c, word, rest));
+            lines.push(format!("{:e}  {:>2}  {:<9}  {}", eps, c, word, rest));
         }
     }
     if !told.is_empty() {

@@ -1,10 +1,8 @@
 //! The tables of docs/CAPTIONS.md.
-use crate::{percent, read, trained};
+use crate::{percent, read, trained, THRESHOLDS};
 use altuliscia::Refusal;
 use captions::{language, Figures, Sorted};
 
-/// The usual threshold of `linfa-svm`, then that of LIBSVM.
-const THRESHOLDS: [f64; 2] = [1e-7, 1e-3];
 const SIZES: [usize; 4] = [64, 128, 256, 512];
 const CEILINGS: [f64; 2] = [1.0, 10.0];
 
@@ -57,9 +55,7 @@ pub fn table(folder: &str) -> Result<String, String> {
             for (c, pairs) in CEILINGS.iter().zip(&runs) {
                 summary.push(format!("| {:e} | {} | {} {}", eps, n, c, summed(pairs)));
             }
-            if eps == THRESHOLDS[0] {
-                full.extend(each(n, &runs));
-            }
+            full.extend(each(n, eps, &runs));
         }
     }
     Ok([summary, full].concat().join("\n") + "\n")
@@ -129,10 +125,10 @@ fn summed(pairs: &[Pair]) -> String {
 }
 
 /// The table of every pair for one number of training captions.
-fn each(n: usize, runs: &[Vec<Pair>; 2]) -> Vec<String> {
+fn each(n: usize, eps: f64, runs: &[Vec<Pair>; 2]) -> Vec<String> {
     let mut lines = vec![
         String::new(),
-        format!("## {} training captions", n),
+        format!("## {} training captions, eps {:e}", n, eps),
         String::new(),
         "| | to sort | C = 1: off | on | linfa-svm's | C = 10: off | on | linfa-svm's |"
             .to_string(),
@@ -172,11 +168,14 @@ mod tests {
         ] {
             let figures = [Figures::read(text).unwrap()];
             assert!(page.contains(&figures[0].package));
-            let runs = CEILINGS.map(|c| at(&figures, 64, c, THRESHOLDS[0]).unwrap());
-            let table = each(64, &runs);
-            let part = page.split("\n## ").find(|p| p.starts_with("64 ")).unwrap();
-            assert!(part.contains(&table[3]));
-            assert!(part.contains(&table[5]), "{}", table[5]);
+            for eps in THRESHOLDS {
+                let runs = CEILINGS.map(|c| at(&figures, 64, c, eps).unwrap());
+                let table = each(64, eps, &runs);
+                let part = page.split(&table[1]).nth(1).unwrap();
+                let part = part.split("\n## ").next().unwrap();
+                assert!(part.contains(&table[3]));
+                assert!(part.contains(&table[5]), "{}", table[5]);
+            }
         }
     }
 
