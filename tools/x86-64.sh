@@ -38,5 +38,5 @@ else
 fi
 
 not_linked() {
-    echo "NOT RUN: what links an archive for x86-64 (C and Rust callers, comparison); on Debian these packages make it run: $x86_packages"
+    echo "NOT RUN: what links an archive for x86-64 (callers in C, Rust and Python, comparison, captions); on Debian these packages make it run: $x86_packages"
 }

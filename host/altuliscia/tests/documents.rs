@@ -33,6 +33,7 @@ fn the_readme_shows_the_sources() {
     for (kind, source) in [
         ("c", include_str!("../../example/example.c")),
         ("rust", include_str!("../src/lib.rs")),
+        ("python", include_str!("../../python/altuliscia.py")),
     ] {
         let strip = |l: &'static str| l.trim_start_matches("//!").trim();
         let source: Vec<&str> = source.lines().map(strip).collect();
@@ -46,4 +47,8 @@ fn the_readme_shows_the_sources() {
     let mut lines = readme.lines().filter(|l| l.contains("linfa-svm says"));
     assert!(lines.clone().count() == 3);
     assert!(lines.all(|l| told.contains(l.trim())));
+    let run = include_str!("../../../captions/cs-sk.expected");
+    let indented: Vec<String> = run.lines().map(|l| format!("    {}", l)).collect();
+    let shown: Vec<&str> = indented.iter().map(|l| l.trim_end()).collect();
+    assert!(shown.len() > 5 && readme.contains(&shown.join("\n")));
 }

@@ -371,6 +371,16 @@ fn spoil(g: &mut Random, p: &mut Problem) -> Spoiled {
     }
 }
 
+/// Compares on given problems, which have their places in the list for seeds. Says how many differ.
+pub fn compare_given(problems: impl Iterator<Item = Problem>) -> u64 {
+    let mut made = Made::default();
+    for (k, p) in problems.enumerate() {
+        let g = &mut Random::new(!(k as u64));
+        made.call(k as u64, Call::new(g, p, Spoiled::Nothing));
+    }
+    tell(&made.counts(), 0, made.differ)
+}
+
 /// Compares on every seed from the first to the last: the problem drawn, often with its lists lent otherwise; an accepted one
 /// again with a smaller budget; now and then one of many samples. Says how many differ.
 pub fn compare(first: u64, last: u64) -> u64 {

@@ -1,5 +1,6 @@
 //! Compares the proved functions with the Rust on drawn problems.
 mod called;
+mod captioned;
 mod reached;
 mod recorded;
 mod trial;
@@ -15,6 +16,8 @@ compare c FIRST LAST
 compare recorded FILE
     the proved run by itself, on the recorded general problems: order and weights by position, rho, r, obj, iterations, reason,
     refusal 11, and the pair and weights of the first 64 passes
+compare captions FILE..
+    the C functions on real captions: the first 64, 128, 256 and 512 of each file of captions/make.py, shrinking off and on
 What the runs reached is counted. The exit status is 1 where one differs, or where 5000 seeds or more didn't reach everything.";
 
 fn main() -> ExitCode {
@@ -23,6 +26,7 @@ fn main() -> ExitCode {
     let differ = match words[..] {
         ["c", first, last] => both(first, last).map(|(first, last)| called::compare(first, last)),
         ["recorded", file] => recorded::compare(file),
+        ["captions", ..] => captioned::compare(&words[1..]),
         [seed, count] => both(seed, count).map(|(seed, count)| trial::compare(seed, count)),
         _ => None,
     };

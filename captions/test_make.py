@@ -1,0 +1,87 @@
+"""Tests of make.py on captions made up here; the package isn't needed."""
+import os
+import struct
+import tempfile
+import unittest
+
+import make
+
+
+def mo(entries):
+    """A compiled catalogue."""
+    texts = [text.encode("utf-8") for pair in entries for text in pair]
+    start, places, data = 28 + 16 * len(entries), [], b""
+    for text in texts:
+        places.append(struct.pack("<2I", len(text), start + len(data)))
+        data += text + b"\0"
+    head = struct.pack("<7I", 0x950412DE, 0, len(entries), 28, 28 + 8 * len(entries), 0, 0)
+    return head + b"".join(places[0::2]) + b"".join(places[1::2]) + data
+
+
+class Catalogues(unittest.TestCase):
+    def read(self, data):
+        with tempfile.TemporaryDirectory() as folder:
+            path = os.path.join(folder, "some.mo")
+            with open(path, "wb") as file:
+                file.write(data)
+            return [tuple(pair) for pair in make.read_mo(path)]
+
+    def test_entries(self):
+        entries = [("", "head"), ("Save", "Uložit"), ("%d day\0%d days", "den\0dny\0dní"), ("menu\x04File", "Soubor")]
+        told = self.read(mo(entries))
+        self.assertEqual(told, [("", "head"), ("Save", "Uložit"), ("%d day", "den"), ("menu\x04File", "Soubor")])
+
+    def test_another_file(self):
+        with self.assertRaises(SystemExit):
+            self.read(b"\0" * 28)
+
+
+class Selection(unittest.TestCase):
+    def test_text(self):
+        self.assertEqual(make.plain("Not-\t Aus\n"), " not- aus ")
+
+    def test_usable(self):
+        self.assertTrue(make.usable("Přidat další"))
+        for caption in ("%s dní", "{0} dní", "<b>dní</b>", "dny\ndní", "1 - 2"):
+            self.assertFalse(make.usable(caption))
+
+    def test_left_out(self):
+        first = {"a": "Ano", "b": "Ne", "c": "Start", "d": "ano", "e": "Jen zde", "f": "%s"}
+        second = {"a": "Áno", "b": "Nie", "c": "Start", "d": "Hej", "f": "Nic"}
+        # SHA-256 puts b (3e23..) before a (ca97..), and d (18ac..) before both. d's caption is a's, so a goes.
+        self.assertEqual(make.selected(first, second), [(" ano ", " hej "), (" ne ", " nie ")])
+
+
+class Figures(unittest.TestCase):
+    def naive(self, a, b):
+        return sum(count * b[gram] for gram, count in a.items())
+
+    def test_grams(self):
+        counts = make.grams(" aa ")
+        self.assertEqual(dict(counts), {" ": 2, "a": 2, " a": 1, "aa": 1, "a ": 1, " aa": 1, "aa ": 1})
+
+    def test_rows_are_sums_of_products(self):
+        captions = [make.grams(make.plain(t)) for t in ("Uložit", "Uložiť", "Přidat další", "Zpět", "aaaaaaaaaaaaaaaaaaaaaaaa")]
+        products = make.Products(captions)
+        for a in captions + [make.grams(" jiné ")]:
+            self.assertEqual(list(products.row(a)), [self.naive(a, b) for b in captions])
+
+    def test_too_long(self):
+        long = make.grams("a" * 70000)
+        with self.assertRaises(SystemExit):
+            make.Products([long]).row(long)
+
+    def test_lines(self):
+        pairs = [(f" a{k} ", f" b{k} ") for k in range(make.TRAINING_MSGIDS + 1)]
+        lines = make.figures(pairs, 4, ["head"]).splitlines()
+        self.assertEqual(lines[:3], ["head", "train 4", "held 2"])
+        self.assertEqual([len(line.split()) for line in lines[3:]], [2, 3, 4, 5, 6, 6])
+        self.assertEqual([line.split()[0] for line in lines[3:]], ["1", "0", "1", "0", "1", "0"])
+        train = [make.grams(t) for pair in pairs[:2] for t in pair]
+        held = make.grams(pairs[-1][1])
+        last = [0, self.naive(held, held)] + [self.naive(held, t) for t in train]
+        self.assertEqual([int(word) for word in lines[-1].split()], last)
+
+
+if __name__ == "__main__":
+    unittest.main()

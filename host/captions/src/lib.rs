@@ -1,0 +1,27 @@
+//! Figures of real captions, and how well a trained sorter sorts them. captions/README.md says what the figures are.
+#![deny(missing_docs, unsafe_code)]
+
+mod figures;
+mod sorted;
+
+pub use figures::{Caption, Figures};
+pub use sorted::{decision, measured, Sorted};
+
+/// The name of a language.
+pub fn language(code: &str) -> &str {
+    match code {
+        "cs" => "Czech",
+        "da" => "Danish",
+        "de" => "German",
+        "es" => "Spanish",
+        "fi" => "Finnish",
+        "fr" => "French",
+        "hu" => "Hungarian",
+        "it" => "Italian",
+        "nl" => "Dutch",
+        "pl" => "Polish",
+        "sk" => "Slovak",
+        "sv" => "Swedish",
+        _ => code,
+    }
+}

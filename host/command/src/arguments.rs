@@ -1,0 +1,250 @@
+//! The words of a call.
+use crate::problem::Samples;
+use crate::{help, Trouble};
+use altuliscia::MOST_PASSES;
+use std::str::FromStr;
+
+#[derive(Clone, Copy, Debug, PartialEq, Eq)]
+pub enum Command {
+    Train,
+    Weights,
+    Check,
+}
+
+#[derive(Clone, Copy, Debug, PartialEq, Eq)]
+pub enum Fit {
+    C,
+    Nu,
+    OneClass,
+}
+
+/// How to train.
+#[derive(Clone, Debug)]
+pub struct Settings {
+    pub fit: Fit,
+    pub cost: f64,
+    pub nu: f64,
+    pub eps: f64,
+    pub shrinking: bool,
+    /// Labels and what their cost is multiplied by.
+    pub weights: Vec<(i32, f64)>,
+    pub budget: u64,
+    pub quiet: bool,
+}
+
+impl Settings {
+    pub const USUAL: Settings = Settings {
+        fit: Fit::C,
+        cost: 1.0,
+        nu: 0.5,
+        eps: 0.001,
+        shrinking: false,
+        weights: Vec::new(),
+        budget: MOST_PASSES,
+        quiet: false,
+    };
+
+    /// The ceilings of the first and the second class.
+    pub fn ceilings(&self, samples: &Samples) -> Result<(f64, f64), Trouble> {
+        if self.fit == Fit::Nu || self.fit == Fit::OneClass {
+            return Ok((1.0, 1.0));
+        }
+        let mut both = [self.cost; 2];
+        for (label, weight) in &self.weights {
+            match samples.classes.iter().position(|c| c == label) {
+                Some(k) => both[k] *= weight,
+                None => return usage(format!("-w{}: no sample has that label", label)),
+            }
+        }
+        Ok((both[0], both[1]))
+    }
+}
+
+pub struct Call {
+    pub command: Command,
+    pub file: String,
+    model: Option<String>,
+    pub settings: Settings,
+}
+
+impl Call {
+    /// Where the model goes: as with svm-train, the file's name with .model, in the folder where the call is made.
+    pub fn model_path(&self) -> String {
+        let name = self.file.rsplit('/').next().unwrap_or(&self.file);
+        self.model.clone().unwrap_or(format!("{}.model", name))
+    }
+}
+
+pub enum Words {
+    Help(&'static str),
+    Call(Call),
+}
+
+fn usage<T>(text: String) -> Result<T, Trouble> {
+    Err(Trouble::Usage(text))
+}
+
+pub fn parse(words: &[String]) -> Result<Words, Trouble> {
+    let (command, text) = match words.first().map(String::as_str) {
+        Some("train") => (Command::Train, help::TRAIN),
+        Some("weights") => (Command::Weights, help::WEIGHTS),
+        Some("check") => (Command::Check, help::CHECK),
+        Some("--help") => return Ok(Words::Help(help::ALL)),
+        Some("--version") => return Ok(Words::Help(help::VERSION)),
+        Some(other) => return usage(format!("there is no command '{}'", other)),
+        None => return usage("a command is missing".to_string()),
+    };
+    if words.iter().any(|word| word == "--help") {
+        return Ok(Words::Help(text));
+    }
+    let mut settings = Settings::USUAL;
+    let mut files = Vec::new();
+    let mut rest = words[1..].iter();
+    while let Some(word) = rest.next() {
+        match word.as_str() {
+            "-q" => settings.quiet = true,
+            option if option.starts_with('-') => match rest.next() {
+                Some(value) => set(&mut settings, option, value)?,
+                None => return usage(format!("{}: its value is missing", option)),
+            },
+            file => files.push(file.to_string()),
+        }
+    }
+    let most = if command == Command::Train { 2 } else { 1 };
+    if files.len() > most {
+        return usage(format!("'{}' is one file too many", files[most]));
+    }
+    let mut files = files.into_iter();
+    match files.next() {
+        Some(file) => Ok(Words::Call(Call {
+            command,
+            file,
+            model: files.next(),
+            settings,
+        })),
+        None => usage("a file is missing".to_string()),
+    }
+}
+
+fn number<T: FromStr>(option: &str, value: &str, what: &str) -> Result<T, Trouble> {
+    let wrong = || Trouble::Usage(format!("{}: '{}' is not {}", option, value, what));
+    value.parse().map_err(|_| wrong())
+}
+
+fn set(s: &mut Settings, option: &str, value: &str) -> Result<(), Trouble> {
+    let float = || number::<f64>(option, value, "a number");
+    match option {
+        "-s" => {
+            s.fit = match value {
+                "0" => Fit::C,
+                "1" => Fit::Nu,
+                "2" => Fit::OneClass,
+                _ => return usage(format!("-s: '{}' is none of 0, 1, 2", value)),
+            }
+        }
+        "-t" if value == "4" => {}
+        "-t" => return usage("-t: only 4 is there, a kernel computed beforehand".to_string()),
+        "-c" => s.cost = float()?,
+        "-n" => s.nu = float()?,
+        "-e" => s.eps = float()?,
+        "-h" => {
+            s.shrinking = match value {
+                "0" => false,
+                "1" => true,
+                _ => return usage(format!("-h: '{}' is neither 0 nor 1", value)),
+            }
+        }
+        "--budget" => s.budget = number(option, value, "a whole number from 0 on")?,
+        _ if option.starts_with("-w") => {
+            let label = number(option, &option[2..], "a label, which is a whole number")?;
+            s.weights.push((label, float()?));
+        }
+        _ => return usage(format!("there is no option '{}'", option)),
+    }
+    Ok(())
+}
+
+#[cfg(test)]
+mod tests {
+    use super::*;
+
+    fn parsed(line: &str) -> Result<Words, Trouble> {
+        let words: Vec<String> = line.split_whitespace().map(str::to_string).collect();
+        parse(&words)
+    }
+
+    fn call(line: &str) -> Call {
+        match parsed(line) {
+            Ok(Words::Call(call)) => call,
+            _ => panic!("{}", line),
+        }
+    }
+
+    #[test]
+    fn options_are_read() {
+        let c = call("train -s 1 -t 4 -c 2 -n 0.25 -e 1e-7 -h 1 -w-1 3 -w2 0.5 --budget 9 -q some/where/a.txt");
+        assert_eq!((c.command, c.settings.fit), (Command::Train, Fit::Nu));
+        let s = &c.settings;
+        assert_eq!((s.cost, s.nu, s.eps), (2.0, 0.25, 1e-7));
+        assert_eq!((s.shrinking, s.budget, s.quiet), (true, 9, true));
+        assert_eq!(s.weights, [(-1, 3.0), (2, 0.5)]);
+        assert_eq!(
+            (c.file.as_str(), c.model_path().as_str()),
+            ("some/where/a.txt", "a.txt.model")
+        );
+        let c = call("train a.txt b.model -c 3");
+        assert_eq!((c.model_path().as_str(), c.settings.cost), ("b.model", 3.0));
+        assert_eq!(call("weights a").command, Command::Weights);
+        assert_eq!(call("check a").command, Command::Check);
+    }
+
+    #[test]
+    fn the_usual_settings_are_those_that_help_tells() {
+        let s = call("train a").settings;
+        assert_eq!((s.fit, s.cost, s.nu, s.eps), (Fit::C, 1.0, 0.5, 0.001));
+        assert_eq!((s.shrinking, s.budget), (false, 10_000_000));
+        for told in [
+            "usually 1)",
+            "usually 0.5)",
+            "usually 0.001)",
+            "usually 0: off)",
+            "usually 10000000)",
+        ] {
+            assert!(help::TRAIN.contains(told), "{}", told);
+        }
+    }
+
+    #[test]
+    fn wrong_words_are_told() {
+        for (line, told) in [
+            ("", "a command is missing"),
+            ("tame a", "there is no command 'tame'"),
+            ("train", "a file is missing"),
+            ("train a b c", "'c' is one file too many"),
+            ("check a b", "'b' is one file too many"),
+            ("train a -c", "-c: its value is missing"),
+            ("train a -c x", "-c: 'x' is not a number"),
+            ("train a -s 3", "-s: '3' is none of 0, 1, 2"),
+            ("train a -h 2", "-h: '2' is neither 0 nor 1"),
+            (
+                "train a -t 2",
+                "-t: only 4 is there, a kernel computed beforehand",
+            ),
+            (
+                "train a --budget -1",
+                "--budget: '-1' is not a whole number from 0 on",
+            ),
+            (
+                "train a -wx 1",
+                "-wx: 'x' is not a label, which is a whole number",
+            ),
+            ("train a -w1 x", "-w1: 'x' is not a number"),
+            ("train a -b 1", "there is no option '-b'"),
+        ] {
+            match parsed(line) {
+                Err(Trouble::Usage(text)) => assert_eq!(text, told),
+                _ => panic!("{}", line),
+            }
+        }
+    }
+}

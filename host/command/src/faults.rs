@@ -1,0 +1,254 @@
+//! Everything about a problem that the library refuses, not only the first.
+use crate::arguments::{Fit, Settings};
+use crate::problem::{Samples, HEAD};
+use altuliscia::{Refusal, MOST_PASSES, MOST_SAMPLES};
+
+/// A refusal and where its reason stands.
+#[derive(Clone, Debug, PartialEq)]
+pub struct Fault {
+    pub refusal: Refusal,
+    pub place: String,
+}
+
+/// 2^1000.
+fn limit() -> f64 {
+    2.0_f64.powi(1000)
+}
+
+/// Every fault, by number and index. The first is what the library would answer.
+pub fn faults(s: &Samples, settings: &Settings, ceilings: (f64, f64)) -> Vec<Fault> {
+    let mut all = Vec::new();
+    let two = settings.fit != Fit::OneClass;
+    let mut add = |refusal: Refusal, place: String| all.push(Fault { refusal, place });
+    if s.n == 0 || s.n > MOST_SAMPLES {
+        add(Refusal::Samples, s.path.clone());
+    }
+    // Files of bytes only: a text's lists are as long as they should be.
+    let labels = s.labels.len() == s.n || !two && s.labels.is_empty();
+    if s.n.checked_mul(s.n) != Some(s.matrix.len()) || !labels {
+        add(Refusal::Length, s.path.clone());
+    } else {
+        for k in (0..s.matrix.len()).filter(|k| !(s.matrix[*k].abs() <= limit())) {
+            add(
+                Refusal::Kernel { index: k as u64 },
+                s.place(k / s.n, HEAD + 8 * k),
+            );
+        }
+        let after = HEAD + 8 * s.matrix.len();
+        for k in (0..s.labels.len()).filter(|k| two && s.labels[*k] > 1) {
+            add(Refusal::Label { index: k as u64 }, s.place(k, after + k));
+        }
+    }
+    let bad = |c: f64| !(c > 0.0 && c <= limit());
+    for (index, c) in [(0, ceilings.0), (1, ceilings.1)] {
+        if settings.fit == Fit::C && bad(c) {
+            let class = s.classes.get(index as usize).copied().unwrap_or_default();
+            add(
+                Refusal::Ceiling { index },
+                format!("-c, -w: the cost of label {} is {}", class, c),
+            );
+        }
+    }
+    if !settings.eps.is_finite() || settings.eps.is_sign_negative() {
+        add(Refusal::Eps, format!("-e {}", settings.eps));
+    }
+    if settings.fit != Fit::C && !(settings.nu > 0.0 && settings.nu <= 1.0) {
+        add(Refusal::Nu, format!("-n {}", settings.nu));
+    }
+    if settings.budget == 0 || settings.budget > MOST_PASSES {
+        add(Refusal::Budget, format!("--budget {}", settings.budget));
+    }
+    all
+}
+
+/// The faults for a reader, a line each, then how many there are.
+pub fn told(s: &Samples, faults: &[Fault]) -> String {
+    let mut lines: Vec<String> = faults
+        .iter()
+        .map(|f| format!("{}: {}", f.place, f.refusal))
+        .collect();
+    lines.push(match faults.len() {
+        0 => format!("{}: {} samples, no fault", s.path, s.n),
+        1 => format!("{}: {} samples, 1 fault", s.path, s.n),
+        many => format!("{}: {} samples, {} faults", s.path, s.n, many),
+    });
+    lines.join("\n") + "\n"
+}
+
+#[cfg(test)]
+mod tests {
+    use super::*;
+    use altuliscia::{fit_c, fit_nu, fit_one_class, OneClass, Options, Problem};
+
+    /// Numbers that look drawn, from 0 up to a limit.
+    struct Drawn(u64);
+
+    impl Drawn {
+        fn below(&mut self, limit: u64) -> u64 {
+            self.0 = self
+                .0
+                .wrapping_mul(6364136223846793005)
+                .wrapping_add(1442695040888963407);
+            (self.0 >> 33) % limit
+        }
+
+        fn of(&mut self, list: &[f64]) -> f64 {
+            list[self.below(list.len() as u64) as usize]
+        }
+
+        /// A number that is good but for one time in many.
+        fn mostly(&mut self, good: f64, list: &[f64]) -> f64 {
+            if self.below(12) == 0 {
+                self.of(list)
+            } else {
+                good
+            }
+        }
+    }
+
+    fn samples(n: usize, matrix: Vec<f64>, labels: Vec<u8>) -> Samples {
+        Samples {
+            path: "a".to_string(),
+            n,
+            matrix,
+            serials: (1..=n as u64).collect(),
+            lines: Vec::new(),
+            classes: vec![1, 0],
+            labels,
+        }
+    }
+
+    /// What the library says of the same problem.
+    fn refused(s: &Samples, t: &Settings, c: (f64, f64)) -> Option<Refusal> {
+        let options = Options {
+            eps: t.eps,
+            shrinking: t.shrinking,
+            budget: t.budget,
+        };
+        let labels: Vec<bool> = s.labels.iter().map(|y| *y == 1).collect();
+        let problem = Problem {
+            matrix: &s.matrix,
+            labels: &labels,
+        };
+        let one = OneClass {
+            n: s.n,
+            matrix: &s.matrix,
+        };
+        let answer = match t.fit {
+            Fit::C => fit_c(&problem, c.0, c.1, &options),
+            Fit::Nu => fit_nu(&problem, t.nu, &options),
+            Fit::OneClass => fit_one_class(&one, t.nu, &options),
+        };
+        answer.err()
+    }
+
+    #[test]
+    fn the_first_fault_is_what_the_library_answers() {
+        let above = f64::from_bits(limit().to_bits() + 1);
+        let strange = [
+            f64::NAN,
+            f64::INFINITY,
+            -f64::INFINITY,
+            0.0,
+            -0.0,
+            -1.0,
+            above,
+            -above,
+            limit(),
+            -limit(),
+            5e-324,
+            1.0000000000000002,
+        ];
+        let mut drawn = Drawn(1);
+        let mut counts = [0; 12];
+        for _ in 0..20_000 {
+            let n = drawn.below(5) as usize;
+            let size = n * n + usize::from(drawn.below(20) == 0);
+            let matrix = (0..size).map(|_| drawn.mostly(1.0, &strange)).collect();
+            let s = samples(n, matrix, (0..n).map(|_| drawn.below(2) as u8).collect());
+            let c = (drawn.mostly(1.0, &strange), drawn.mostly(2.0, &strange));
+            let t = Settings {
+                fit: [Fit::C, Fit::Nu, Fit::OneClass][drawn.below(3) as usize],
+                nu: drawn.mostly(0.5, &strange),
+                eps: drawn.mostly(0.001, &strange),
+                shrinking: drawn.below(2) == 0,
+                budget: [1, 0, 10, 10, 10, 10_000_001][drawn.below(6) as usize],
+                ..Settings::USUAL
+            };
+            let all = faults(&s, &t, c);
+            let ours = all.first().map(|f| f.refusal);
+            // What only a run can tell has no fault.
+            let theirs = refused(&s, &t, c).filter(|r| *r != Refusal::ShrunkAway);
+            assert_eq!(ours, theirs, "{:?} {:?} {:?}", s, t, c);
+            let numbers: Vec<(u64, u64)> = all
+                .iter()
+                .map(|f| (f.refusal.number(), f.refusal.index()))
+                .collect();
+            assert!(numbers.windows(2).all(|w| w[0] < w[1]), "{:?}", numbers);
+            counts[ours.map_or(0, |r| r.number()) as usize] += 1;
+        }
+        for number in [0, 1, 2, 3, 5, 8, 9, 10] {
+            assert!(counts[number] > 20, "{:?}", counts);
+        }
+    }
+
+    #[test]
+    fn every_fault_is_named() {
+        let s = samples(2, vec![f64::NAN, 0.0, 0.0, f64::INFINITY], vec![2, 3]);
+        let t = Settings {
+            eps: -0.0,
+            nu: 0.0,
+            budget: 0,
+            ..Settings::USUAL
+        };
+        let found: Vec<(u64, u64)> = faults(&s, &t, (0.0, f64::NAN))
+            .iter()
+            .map(|f| (f.refusal.number(), f.refusal.index()))
+            .collect();
+        assert_eq!(
+            found,
+            [
+                (3, 0),
+                (3, 3),
+                (4, 0),
+                (4, 1),
+                (5, 0),
+                (5, 1),
+                (8, 0),
+                (10, 0)
+            ]
+        );
+        let places: Vec<String> = faults(&s, &t, (1.0, 1.0))
+            .into_iter()
+            .map(|f| f.place)
+            .collect();
+        assert_eq!(
+            places,
+            [
+                "a: byte 16",
+                "a: byte 40",
+                "a: byte 48",
+                "a: byte 49",
+                "-e -0",
+                "--budget 0"
+            ]
+        );
+    }
+
+    #[test]
+    fn labels_may_be_left_out_for_one_class_alone() {
+        let s = samples(1, vec![1.0], Vec::new());
+        let of = |fit| {
+            faults(
+                &s,
+                &Settings {
+                    fit,
+                    ..Settings::USUAL
+                },
+                (1.0, 1.0),
+            )
+            .len()
+        };
+        assert_eq!((of(Fit::C), of(Fit::Nu), of(Fit::OneClass)), (1, 1, 0));
+    }
+}

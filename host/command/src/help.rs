@@ -1,0 +1,106 @@
+//! The texts of --help.
+
+pub const VERSION: &str = concat!("altuliscia ", env!("CARGO_PKG_VERSION"), "\n");
+
+/// The exit statuses.
+macro_rules! statuses {
+    () => {
+        "Exit status: 0 done, 2 the words make no sense, 3 the file can't be read or holds no problem,
+4 something can't be written, 10 + N the library's refusal N (11 to 21). What was wrong is told
+on standard error.
+"
+    };
+}
+
+/// The part on files and options that every command has.
+macro_rules! options {
+    () => {
+        "FILE is a text in LIBSVM's format for a precomputed kernel, a line for each sample:
+
+  label 0:serial 1:K(1) 2:K(2) ..
+
+The label is a whole number, serial is the sample's own number from 1 on, and K(j) is its kernel
+value with the sample of number j; every value is written out, zeros too. Or FILE has the
+library's own bytes (docs/BYTES.md). At most 512 samples are trained. The label that is seen
+first is the first class; of -1 and +1 it is always +1, as in LIBSVM.
+
+Options, named as svm-train's where they mean the same:
+
+  -s 0|1|2    two classes with a cost (0), two classes with nu (1), one class with nu (2)
+              (usually 0)
+  -c COST     the most that a weight may be, for -s 0 (usually 1)
+  -wL FACTOR  multiplies the cost of label L, for -s 0: -w1 2, -w-1 0.5
+  -n NU       above 0 and not above 1, for -s 1 and -s 2 (usually 0.5)
+  -e EPS      the run ends where no pair breaks the conditions by this much (usually 0.001)
+  -h 0|1      shrinking (usually 0: off). svm-train has it on unless it is told otherwise; here
+              it is off, since with -h 1 a run may end in refusal 11, and a model may sort worse
+              (docs/CAPTIONS.md)
+  --budget N  the most passes, 1 to 10000000 (usually 10000000)
+  -t 4        a precomputed kernel; it is the only one there is and need not be said
+  -q          says nothing where all is well
+
+"
+    };
+}
+
+pub const ALL: &str = concat!(
+    "altuliscia COMMAND ..
+
+Trains a sorter of two classes, or of one, from a kernel matrix, by the proved library
+libaltuliscia.a.
+
+  altuliscia train FILE [MODEL]   trains, and writes a model file that LIBSVM's svm-predict reads
+  altuliscia weights FILE         trains, and lists every sample with its weight
+  altuliscia check FILE           names all that the library would refuse, without training
+
+`altuliscia COMMAND --help` tells of each, with its options. An example: the file small.txt has
+
+  1 0:1 1:1 2:0
+  2 0:2 1:0 2:1
+
+and `altuliscia train small.txt` writes small.txt.model.
+
+",
+    statuses!()
+);
+
+pub const TRAIN: &str = concat!(
+    "altuliscia train [OPTIONS] FILE [MODEL]
+
+Trains the problem of FILE, writes a model file and says how the run ended: the lines that
+svm-train ends with, the exit reason (threshold: no pair is left to mend; iterations: the budget
+ran out), and a note where the model is worse than it looks.
+
+MODEL is what LIBSVM's svm-predict reads for a precomputed kernel. Where it isn't named it is
+FILE's name with .model, in this folder. Its weights are each sample's own (the home reading). It
+is written whole or not at all.
+
+",
+    options!(),
+    statuses!()
+);
+
+pub const WEIGHTS: &str = concat!(
+    "altuliscia weights [OPTIONS] FILE
+
+Trains the problem of FILE and lists every sample: its number from 0 on, its serial number in
+FILE, its label, its own weight (signed by its class), `at` where the weight is at its ceiling,
+and what the Rust crate linfa-svm says where that is another weight. No file is written.
+
+",
+    options!(),
+    statuses!()
+);
+
+pub const CHECK: &str = concat!(
+    "altuliscia check [OPTIONS] FILE
+
+Reads FILE and names all that the library would refuse, in FILE and in the options, a line each:
+where it stands, the refusal's number and index, and what to do. Refusal 11 can't be known
+without training. Nothing is trained and no file is written. The exit status is that of the
+lowest refusal.
+
+",
+    options!(),
+    statuses!()
+);

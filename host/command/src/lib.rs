@@ -1,0 +1,89 @@
+//! What the command line does, for its program and its tests.
+#![deny(missing_docs, unsafe_code)]
+
+mod arguments;
+mod faults;
+mod help;
+mod model;
+mod problem;
+mod progress;
+mod report;
+mod save;
+mod trouble;
+
+pub use trouble::Trouble;
+
+use altuliscia::{fit_c, fit_nu, fit_one_class, Answer, OneClass, Options, Problem};
+use arguments::{Call, Command, Fit, Settings, Words};
+use problem::Samples;
+use std::io::Write;
+
+/// Does what the words ask for and writes what it has to tell. A progress line is shown where `terminal` is true.
+pub fn run(words: &[String], out: &mut dyn Write, terminal: bool) -> Result<(), Trouble> {
+    match arguments::parse(words)? {
+        Words::Help(text) => tell(out, text),
+        Words::Call(call) => carried_out(&call, out, terminal),
+    }
+}
+
+fn carried_out(call: &Call, out: &mut dyn Write, terminal: bool) -> Result<(), Trouble> {
+    let samples = progress::shown(terminal, "reading", || {
+        problem::read(&call.file, call.settings.fit)
+    })?;
+    let settings = &call.settings;
+    let ceilings = settings.ceilings(&samples)?;
+    let faults = faults::faults(&samples, settings, ceilings);
+    if call.command == Command::Check {
+        if !settings.quiet || !faults.is_empty() {
+            tell(out, &faults::told(&samples, &faults))?;
+        }
+        return match faults.into_iter().next() {
+            Some(first) => Err(Trouble::Faults(first.refusal)),
+            None => Ok(()),
+        };
+    }
+    if let Some(first) = faults.into_iter().next() {
+        return Err(Trouble::Refused(first.place, first.refusal));
+    }
+    let answer = progress::shown(terminal, "training", || {
+        trained(&samples, settings, ceilings)
+    })?;
+    if call.command == Command::Weights {
+        return tell(out, &report::weights(&samples, settings, ceilings, &answer));
+    }
+    let path = call.model_path();
+    save::whole(&path, &model::text(&samples, settings, &answer))?;
+    if settings.quiet {
+        return Ok(());
+    }
+    tell(out, &report::summary(&samples, settings, ceilings, &answer))
+}
+
+/// Trains a problem without faults.
+fn trained(s: &Samples, settings: &Settings, (cpos, cneg): (f64, f64)) -> Result<Answer, Trouble> {
+    let options = Options {
+        eps: settings.eps,
+        shrinking: settings.shrinking,
+        budget: settings.budget,
+    };
+    let labels: Vec<bool> = s.labels.iter().map(|label| *label == 1).collect();
+    let problem = Problem {
+        matrix: &s.matrix,
+        labels: &labels,
+    };
+    let one = OneClass {
+        n: s.n,
+        matrix: &s.matrix,
+    };
+    let answer = match settings.fit {
+        Fit::C => fit_c(&problem, cpos, cneg, &options),
+        Fit::Nu => fit_nu(&problem, settings.nu, &options),
+        Fit::OneClass => fit_one_class(&one, settings.nu, &options),
+    };
+    answer.map_err(|refusal| Trouble::Refused(s.path.clone(), refusal))
+}
+
+fn tell(out: &mut dyn Write, text: &str) -> Result<(), Trouble> {
+    let told = out.write_all(text.as_bytes());
+    told.map_err(|e| Trouble::writing("standard output", &e))
+}

@@ -1,0 +1,49 @@
+//! The model file, as LIBSVM's svm-predict reads it for a precomputed kernel.
+use crate::arguments::{Fit, Settings};
+use crate::problem::Samples;
+use altuliscia::Answer;
+
+/// A double in the words of C, so that reading it gives the same bits.
+pub fn double(x: f64) -> String {
+    match x {
+        _ if x.is_nan() => "nan".to_string(),
+        _ if x.is_infinite() => if x > 0.0 { "inf" } else { "-inf" }.to_string(),
+        _ => format!("{:?}", x),
+    }
+}
+
+/// The samples of a class whose weight isn't zero.
+fn support(s: &Samples, answer: &Answer, class: Option<u8>) -> Vec<String> {
+    let weighed = (0..s.n).filter(|k| answer.home[*k] != 0.0);
+    weighed
+        .filter(|k| class.map_or(true, |label| s.labels[*k] == label))
+        .map(|k| format!("{} 0:{}", double(answer.home[k]), s.serials[k]))
+        .collect()
+}
+
+/// The weights are the home reading's: each sample's own.
+pub fn text(s: &Samples, settings: &Settings, answer: &Answer) -> String {
+    let kind = match settings.fit {
+        Fit::C => "c_svc",
+        Fit::Nu => "nu_svc",
+        Fit::OneClass => "one_class",
+    };
+    let classes: Vec<Vec<String>> = match settings.fit {
+        Fit::OneClass => vec![support(s, answer, None)],
+        _ => vec![support(s, answer, Some(1)), support(s, answer, Some(0))],
+    };
+    let mut lines = vec![
+        format!("svm_type {}", kind),
+        "kernel_type precomputed".to_string(),
+        "nr_class 2".to_string(),
+        format!("total_sv {}", classes.iter().map(Vec::len).sum::<usize>()),
+        format!("rho {}", double(answer.rho)),
+    ];
+    if let ([first, second], [a, b]) = (&s.classes[..], &classes[..]) {
+        lines.push(format!("label {} {}", first, second));
+        lines.push(format!("nr_sv {} {}", a.len(), b.len()));
+    }
+    lines.push("SV".to_string());
+    lines.extend(classes.concat());
+    lines.join("\n") + "\n"
+}

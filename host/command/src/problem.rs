@@ -1,0 +1,309 @@
+//! Problem files: LIBSVM's text for a precomputed kernel, and the library's own bytes (docs/BYTES.md).
+use crate::arguments::Fit;
+use crate::Trouble;
+
+/// The first eight bytes of a file of own bytes.
+pub const MAGIC: &[u8; 8] = b"ALTUPRB1";
+/// The bytes before the matrix: the magic and n.
+pub const HEAD: usize = 16;
+
+/// The samples of a file.
+#[derive(Clone, Debug)]
+pub struct Samples {
+    /// The file.
+    pub path: String,
+    /// How many samples it has.
+    pub n: usize,
+    /// The kernel matrix, column by column.
+    pub matrix: Vec<f64>,
+    /// 1 for the first class, 0 for the second; a file of bytes may have anything.
+    pub labels: Vec<u8>,
+    /// What the first and the second class are called; nothing where only one class is trained.
+    pub classes: Vec<i32>,
+    /// What the samples are called in a model file.
+    pub serials: Vec<u64>,
+    /// The line of each sample; nothing in a file of bytes.
+    pub lines: Vec<usize>,
+}
+
+impl Samples {
+    /// Where a sample's label or matrix column stands, for a reader who looks for it.
+    pub fn place(&self, sample: usize, byte: usize) -> String {
+        match self.lines.get(sample) {
+            Some(line) => format!("{}:{}", self.path, line),
+            None => format!("{}: byte {}", self.path, byte),
+        }
+    }
+}
+
+pub fn read(path: &str, fit: Fit) -> Result<Samples, Trouble> {
+    let data = std::fs::read(path).map_err(|e| Trouble::File(format!("{}: {}", path, e)))?;
+    if data.starts_with(MAGIC) {
+        return own(path, &data, fit).map_err(|text| Trouble::File(format!("{}: {}", path, text)));
+    }
+    let told =
+        |(line, text): (usize, String)| Trouble::File(format!("{}:{}: {}", path, line, text));
+    text(path, &data, fit).map_err(told)
+}
+
+/// A file of bytes. Lengths that don't fit n are left for the faults.
+fn own(path: &str, data: &[u8], fit: Fit) -> Result<Samples, String> {
+    let head = data.get(8..HEAD).ok_or("the file ends before n")?;
+    let n = u64::from_le_bytes(head.try_into().map_err(|_| "no n")?);
+    let n = usize::try_from(n).map_err(|_| "n is too large")?;
+    let body = &data[HEAD..];
+    let cut = n.checked_mul(n).and_then(|x| x.checked_mul(8));
+    let cut = cut.unwrap_or(usize::MAX).min(body.len());
+    let (matrix, labels) = body.split_at(cut);
+    let two = fit != Fit::OneClass;
+    Ok(Samples {
+        path: path.to_string(),
+        n,
+        matrix: matrix
+            .chunks_exact(8)
+            .map(|b| {
+                b.iter()
+                    .rev()
+                    .fold(0, |word, byte| word << 8 | u64::from(*byte))
+            })
+            .map(f64::from_bits)
+            .collect(),
+        labels: labels.to_vec(),
+        classes: if two { vec![1, 0] } else { Vec::new() },
+        serials: (1..=n.min(body.len()) as u64).collect(),
+        lines: Vec::new(),
+    })
+}
+
+/// A line of text: its label, its serial number and its kernel values.
+struct Row {
+    label: i32,
+    serial: usize,
+    values: Vec<f64>,
+}
+
+/// A text file. An error has its line.
+fn text(path: &str, data: &[u8], fit: Fit) -> Result<Samples, (usize, String)> {
+    let mut rows: Vec<Row> = Vec::new();
+    let data = data.strip_suffix(b"\n").unwrap_or(data);
+    let lines = data.split(|byte| *byte == b'\n').enumerate();
+    for (k, line) in lines.filter(|_| !data.is_empty()) {
+        let line = std::str::from_utf8(line).map_err(|_| "not a text".to_string());
+        let row = line.and_then(row).map_err(|told| (k + 1, told))?;
+        let width = rows
+            .first()
+            .map_or(row.values.len(), |first| first.values.len());
+        if row.values.len() != width {
+            let told = format!(
+                "{} kernel values, but line 1 has {}",
+                row.values.len(),
+                width
+            );
+            return Err((k + 1, told));
+        }
+        if row.serial == 0 || row.serial > width {
+            let told = format!("the serial number {} is none of 1 to {}", row.serial, width);
+            return Err((k + 1, told));
+        }
+        rows.push(row);
+    }
+    let labels: Vec<i32> = rows.iter().map(|row| row.label).collect();
+    let classes = match fit {
+        Fit::OneClass => Vec::new(),
+        _ => classes(&labels)?,
+    };
+    let matrix = rows
+        .iter()
+        .flat_map(|column| rows.iter().map(move |row| column.values[row.serial - 1]));
+    Ok(Samples {
+        path: path.to_string(),
+        n: rows.len(),
+        matrix: matrix.collect(),
+        labels: labels
+            .iter()
+            .map(|l| u8::from(classes.first() == Some(l)))
+            .collect(),
+        classes,
+        serials: rows.iter().map(|row| row.serial as u64).collect(),
+        lines: (1..=rows.len()).collect(),
+    })
+}
+
+fn row(line: &str) -> Result<Row, String> {
+    let mut words = line.split_ascii_whitespace();
+    let label = words.next().ok_or("an empty line")?;
+    let label = whole(label).ok_or(format!("the label '{}' is not a whole number", label))?;
+    let mut serial = None;
+    let mut values = Vec::new();
+    for (k, word) in words.enumerate() {
+        let wrong = || format!("'{}' stands where {}:number should", word, k);
+        let (index, value) = word.split_once(':').ok_or_else(wrong)?;
+        if index.parse() != Ok(k) {
+            return Err(wrong());
+        }
+        match k {
+            0 => {
+                serial = Some(
+                    whole(value)
+                        .and_then(|x| usize::try_from(x).ok())
+                        .ok_or_else(wrong)?,
+                )
+            }
+            _ => values.push(value.parse().map_err(|_| wrong())?),
+        }
+    }
+    let serial = serial.ok_or("0:serial is missing")?;
+    Ok(Row {
+        label,
+        serial,
+        values,
+    })
+}
+
+/// A whole number, however it is written: 1, +1, 1.0.
+fn whole(word: &str) -> Option<i32> {
+    let value: f64 = word.parse().ok()?;
+    let number = value as i32;
+    (f64::from(number) == value).then(|| number)
+}
+
+/// The two classes in LIBSVM's order: the label that is seen first is the first class, but of -1 and +1 it is +1.
+fn classes(labels: &[i32]) -> Result<Vec<i32>, (usize, String)> {
+    let mut seen: Vec<i32> = Vec::new();
+    for (k, label) in labels.iter().enumerate() {
+        if !seen.contains(label) {
+            seen.push(*label);
+        }
+        if seen.len() > 2 {
+            return Err((
+                k + 1,
+                format!("a third label, {}: two classes are trained", label),
+            ));
+        }
+    }
+    match seen[..] {
+        [one] => Err((
+            1,
+            format!(
+                "every label is {}: two classes are needed (one class is -s 2)",
+                one
+            ),
+        )),
+        [-1, 1] => Ok(vec![1, -1]),
+        _ => Ok(seen),
+    }
+}
+
+#[cfg(test)]
+mod tests {
+    use super::*;
+
+    const SMALL: &str = "+1 0:2 1:0.5 2:1 3:7\n-1 0:1 1:3 2:0.25 3:7\r\n";
+
+    #[test]
+    fn a_column_is_a_line_read_at_the_serial_numbers() {
+        let s = text("a", SMALL.as_bytes(), Fit::C).unwrap();
+        assert_eq!((s.n, s.labels), (2, vec![1, 0]));
+        assert_eq!(s.matrix, [1.0, 0.5, 0.25, 3.0]);
+        assert_eq!((s.serials, s.classes), (vec![2, 1], vec![1, -1]));
+    }
+
+    #[test]
+    fn the_first_class_is_libsvms() {
+        assert_eq!(classes(&[3, 7, 3]), Ok(vec![3, 7]));
+        assert_eq!(classes(&[7, 3, 3]), Ok(vec![7, 3]));
+        assert_eq!(classes(&[1, -1]), Ok(vec![1, -1]));
+        assert_eq!(classes(&[-1, -1, 1]), Ok(vec![1, -1]));
+        assert_eq!(classes(&[-1, 2]), Ok(vec![-1, 2]));
+        assert_eq!(classes(&[]), Ok(vec![]));
+    }
+
+    #[test]
+    fn a_wrong_text_is_told_with_its_line() {
+        for (from, to, line, told) in [
+            ("+1 ", "1.5 ", 1, "the label '1.5' is not a whole number"),
+            ("+1 ", "nan ", 1, "the label 'nan' is not a whole number"),
+            (
+                "0:2 1:0.5",
+                "1:0.5",
+                1,
+                "'1:0.5' stands where 0:number should",
+            ),
+            (
+                "2:0.25",
+                "2=0.25",
+                2,
+                "'2=0.25' stands where 2:number should",
+            ),
+            ("2:0.25 ", "", 2, "'3:7' stands where 2:number should"),
+            ("2:0.25", "2:x", 2, "'2:x' stands where 2:number should"),
+            ("0:1", "0:0.5", 2, "'0:0.5' stands where 0:number should"),
+            ("0:1", "0:4", 2, "the serial number 4 is none of 1 to 3"),
+            ("0:1", "0:0", 2, "the serial number 0 is none of 1 to 3"),
+            (" 3:7\r", "", 2, "2 kernel values, but line 1 has 3"),
+            ("-1 0:1 1:3 2:0.25 3:7\r", "-1", 2, "0:serial is missing"),
+            ("-1 0:1", "\n-1 0:1", 2, "an empty line"),
+            (
+                "-1 0:1",
+                "1 0:1",
+                1,
+                "every label is 1: two classes are needed (one class is -s 2)",
+            ),
+        ] {
+            assert_eq!(SMALL.matches(from).count(), 1, "{}", from);
+            let wrong = SMALL.replace(from, to);
+            let found = text("a", wrong.as_bytes(), Fit::C).map(|s| s.n);
+            assert_eq!(found, Err((line, told.to_string())));
+        }
+        let third = format!("{}{}", SMALL, "2 0:3 1:0 2:0 3:1\n");
+        let found = text("a", third.as_bytes(), Fit::C).map(|s| s.n);
+        assert_eq!(
+            found,
+            Err((3, "a third label, 2: two classes are trained".to_string()))
+        );
+        assert_eq!(
+            text("a", third.as_bytes(), Fit::OneClass).map(|s| s.n),
+            Ok(3)
+        );
+        let found = text("a", b"1 0:1 1:1\n\xff", Fit::C).map(|s| s.n);
+        assert_eq!(found, Err((2, "not a text".to_string())));
+    }
+
+    #[test]
+    fn the_file_that_the_document_shows_is_read() {
+        let document = include_str!("../../../docs/BYTES.md");
+        let part = document.split("\n    file ").nth(1).unwrap();
+        let part = part.split("\n\n").next().unwrap();
+        let byte = |word| u8::from_str_radix(word, 16).unwrap();
+        let data: Vec<u8> = part.split_whitespace().map(byte).collect();
+        assert!(data.starts_with(MAGIC));
+        let s = own("a", &data, Fit::C).unwrap();
+        assert_eq!(
+            (s.n, s.matrix, s.labels),
+            (2, vec![1.0, 0.0, 0.0, 1.0], vec![1, 0])
+        );
+    }
+
+    #[test]
+    fn bytes_are_read_lowest_first() {
+        let mut data = b"ALTUPRB1\x02\0\0\0\0\0\0\0".to_vec();
+        for x in [1.0_f64, 0.5, 0.25, 3.0] {
+            data.extend(x.to_le_bytes());
+        }
+        data.extend([0, 1]);
+        let s = own("a", &data, Fit::C).unwrap();
+        assert_eq!(
+            (s.n, s.matrix, s.labels),
+            (2, vec![1.0, 0.5, 0.25, 3.0], vec![0, 1])
+        );
+        assert_eq!((s.classes, s.serials), (vec![1, 0], vec![1, 2]));
+        for length in HEAD..data.len() {
+            let s = own("a", &data[..length], Fit::C).unwrap();
+            assert!(s.matrix.len() < 4 || s.labels.len() < 2);
+        }
+        assert!(own("a", &data[..HEAD - 1], Fit::C).is_err());
+        data[8..16].fill(0xff);
+        let s = own("a", &data, Fit::C).unwrap();
+        assert_eq!((s.n, s.matrix.len(), s.serials.len()), (usize::MAX, 4, 34));
+    }
+}

@@ -1,0 +1,121 @@
+//! What is told of an answer.
+use crate::arguments::{Fit, Settings};
+use crate::model::double;
+use crate::problem::Samples;
+use altuliscia::{Answer, ExitReason};
+
+/// A double as `%f` of C writes it.
+fn six(x: f64) -> String {
+    match x.is_finite() {
+        true => format!("{:.6}", x),
+        false => double(x),
+    }
+}
+
+/// Whether a sample's weight is at its ceiling.
+fn at_ceiling(s: &Samples, fit: Fit, ceilings: (f64, f64), answer: &Answer, k: usize) -> bool {
+    let ceiling = match (fit, answer.r, s.labels.get(k)) {
+        // The nu fit divides its weights, and so their ceiling, by r.
+        (Fit::Nu, Some(r), _) => 1.0 / r,
+        (_, _, Some(0)) => ceilings.1,
+        _ => ceilings.0,
+    };
+    answer.home[k].abs() >= ceiling
+}
+
+fn differs(answer: &Answer, k: usize) -> bool {
+    let (home, other) = (answer.home[k], answer.crate_reading[k]);
+    home != other && !(home.is_nan() && other.is_nan())
+}
+
+/// The lines that svm-train ends with, then why the run ended and what a reader should know of it.
+pub fn summary(s: &Samples, settings: &Settings, ceilings: (f64, f64), a: &Answer) -> String {
+    let mut lines = vec![format!("optimization finished, #iter = {}", a.iterations)];
+    match (settings.fit, a.r) {
+        (Fit::C, _) if ceilings.0 == ceilings.1 => {
+            let sum: f64 = a.home.iter().map(|w| w.abs()).sum();
+            lines.push(format!("nu = {}", six(sum / (ceilings.0 * s.n as f64))));
+        }
+        (Fit::Nu, Some(r)) => {
+            lines.push(format!("nu = {}", six(settings.nu)));
+            lines.push(format!("C = {}", six(1.0 / r)));
+        }
+        _ => {}
+    }
+    lines.push(format!("obj = {}, rho = {}", six(a.obj), six(a.rho)));
+    let bounded = (0..s.n)
+        .filter(|k| at_ceiling(s, settings.fit, ceilings, a, *k))
+        .count();
+    lines.push(format!("nSV = {}, nBSV = {}", a.support, bounded));
+    if settings.fit != Fit::OneClass {
+        lines.push(format!("Total nSV = {}", a.support));
+    }
+    lines.push(match a.reason {
+        ExitReason::Threshold => "exit reason: threshold".to_string(),
+        ExitReason::Iterations => format!(
+            "exit reason: iterations (all {} of the budget)",
+            settings.budget
+        ),
+    });
+    lines.extend(notes(s, settings, a));
+    lines.join("\n") + "\n"
+}
+
+/// What makes a model worse than it looks.
+fn notes(s: &Samples, settings: &Settings, a: &Answer) -> Vec<String> {
+    let mut notes = Vec::new();
+    if !a.rho.is_finite() {
+        let hint = if settings.shrinking {
+            "; train with -h 0"
+        } else {
+            ""
+        };
+        notes.push(format!(
+            "note: rho is {}, so everything is sorted into one and the same class{}",
+            double(a.rho),
+            hint
+        ));
+    }
+    let parted = (0..s.n).filter(|k| differs(a, *k)).count();
+    if parted > 0 {
+        notes.push(format!(
+            "note: {} of {} samples have another weight in the list that linfa-svm answers; the model has each sample's own",
+            parted, s.n
+        ));
+    }
+    notes
+}
+
+/// A line for each sample, with the crate's reading where it is another.
+pub fn weights(s: &Samples, settings: &Settings, ceilings: (f64, f64), a: &Answer) -> String {
+    let mut lines =
+        vec!["sample serial  label  weight                    ceiling  linfa-svm says".to_string()];
+    for k in 0..s.n {
+        let label = match (s.labels.get(k), &s.classes[..]) {
+            (Some(1), [first, _]) => first.to_string(),
+            (Some(_), [_, second]) => second.to_string(),
+            _ => String::new(),
+        };
+        let ceiling = if at_ceiling(s, settings.fit, ceilings, a, k) {
+            "at"
+        } else {
+            ""
+        };
+        let other = if differs(a, k) {
+            double(a.crate_reading[k])
+        } else {
+            String::new()
+        };
+        let line = format!(
+            "{:>6} {:>6} {:>6}  {:<24}  {:<7}  {}",
+            k,
+            s.serials[k],
+            label,
+            double(a.home[k]),
+            ceiling,
+            other
+        );
+        lines.push(line.trim_end().to_string());
+    }
+    lines.join("\n") + "\n"
+}

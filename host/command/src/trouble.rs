@@ -1,0 +1,49 @@
+//! Why a call didn't do what it was asked, and the exit status that says so.
+use altuliscia::Refusal;
+use std::fmt;
+
+/// What went wrong.
+#[derive(Clone, Debug, PartialEq)]
+pub enum Trouble {
+    /// The words make no sense. Status 2.
+    Usage(String),
+    /// A file can't be read, or holds no problem. Status 3.
+    File(String),
+    /// Something can't be written. Status 4.
+    Write(String),
+    /// The library refuses: the place and the refusal. Status 10 and the refusal's number.
+    Refused(String, Refusal),
+    /// A check found faults, and has told them; this is the lowest. Status 10 and its number.
+    Faults(Refusal),
+}
+
+impl Trouble {
+    /// Something couldn't be written.
+    pub fn writing(what: &str, e: &std::io::Error) -> Trouble {
+        Trouble::Write(format!("{}: {}", what, e))
+    }
+
+    /// The exit status.
+    pub fn status(&self) -> u8 {
+        match self {
+            Trouble::Usage(_) => 2,
+            Trouble::File(_) => 3,
+            Trouble::Write(_) => 4,
+            Trouble::Refused(_, refusal) | Trouble::Faults(refusal) => {
+                10 + refusal.number().min(200) as u8
+            }
+        }
+    }
+}
+
+impl fmt::Display for Trouble {
+    fn fmt(&self, f: &mut fmt::Formatter<'_>) -> fmt::Result {
+        match self {
+            Trouble::Usage(text) => write!(f, "{} (see altuliscia --help)", text),
+            Trouble::File(text) => write!(f, "{}", text),
+            Trouble::Write(text) => write!(f, "nothing was written to {}", text),
+            Trouble::Refused(place, refusal) => write!(f, "{}: {}", place, refusal),
+            Trouble::Faults(_) => write!(f, "this problem would be refused"),
+        }
+    }
+}

@@ -1,0 +1,338 @@
+//! The command line over small files.
+use captions::Figures;
+use command::{run, Trouble};
+use std::fs;
+use std::path::PathBuf;
+use std::process::Command;
+
+/// A folder of a test's own, empty.
+fn folder(name: &str) -> PathBuf {
+    let path = PathBuf::from(env!("CARGO_TARGET_TMPDIR")).join(name);
+    let _ = fs::remove_dir_all(&path);
+    fs::create_dir_all(&path).unwrap();
+    path
+}
+
+/// Writes a file there and hands back its path.
+fn file(folder: &PathBuf, name: &str, data: &[u8]) -> String {
+    let path = folder.join(name);
+    fs::write(&path, data).unwrap();
+    path.to_str().unwrap().to_string()
+}
+
+/// Runs a line of words, in which FILE and MODEL stand for paths.
+fn told(line: &str, file: &str, model: &str) -> Result<String, Trouble> {
+    let path = |word: &str| match word {
+        "FILE" => file.to_string(),
+        "MODEL" => model.to_string(),
+        other => other.to_string(),
+    };
+    let words: Vec<String> = line.split_whitespace().map(path).collect();
+    let mut out = Vec::new();
+    run(&words, &mut out, false).map(|()| String::from_utf8(out).unwrap())
+}
+
+const SMALL: &str = "7 0:1 1:1 2:0\n3 0:2 1:0 2:1\n";
+
+/// A file of the library's own bytes.
+fn own(n: u64, matrix: &[f64], labels: &[u8]) -> Vec<u8> {
+    let mut data = b"ALTUPRB1".to_vec();
+    data.extend(n.to_le_bytes());
+    data.extend(matrix.iter().flat_map(|x| x.to_le_bytes()));
+    data.extend(labels);
+    data
+}
+
+#[test]
+fn a_model_is_written_and_told() {
+    let f = folder("train");
+    let (path, model) = (
+        file(&f, "small.txt", SMALL.as_bytes()),
+        file(&f, "model", b"old"),
+    );
+    let text = told("train FILE MODEL", &path, &model).unwrap();
+    assert_eq!(
+        text,
+        "optimization finished, #iter = 1\nnu = 1.000000\nobj = -1.000000, rho = 0.000000\nnSV = 2, nBSV = 2\nTotal nSV = 2\nexit reason: threshold\n"
+    );
+    assert_eq!(
+        fs::read_to_string(&model).unwrap(),
+        "svm_type c_svc\nkernel_type precomputed\nnr_class 2\ntotal_sv 2\nrho 0.0\nlabel 7 3\nnr_sv 1 1\nSV\n1.0 0:1\n-1.0 0:2\n"
+    );
+    let text = told("train FILE MODEL --budget 1 -q", &path, &model).unwrap();
+    assert_eq!(text, "");
+    let text = told("train FILE MODEL --budget 1", &path, &model).unwrap();
+    assert!(text.ends_with("exit reason: iterations (all 1 of the budget)\n"));
+    let text = told("train -s 1 -n 1 FILE MODEL", &path, &model).unwrap();
+    assert!(text.contains("nu = 1.000000\nC = "), "{}", text);
+    assert!(fs::read_to_string(&model)
+        .unwrap()
+        .starts_with("svm_type nu_svc\n"));
+    told("train -s 2 -n 0.5 FILE MODEL", &path, &model).unwrap();
+    assert_eq!(
+        fs::read_to_string(&model).unwrap(),
+        "svm_type one_class\nkernel_type precomputed\nnr_class 2\ntotal_sv 2\nrho 0.5\nSV\n0.5 0:1\n0.5 0:2\n"
+    );
+}
+
+#[test]
+fn costs_are_multiplied_by_label() {
+    let f = folder("costs");
+    let path = file(&f, "small.txt", SMALL.as_bytes());
+    let weights = |line: &str| told(line, &path, "").unwrap();
+    let one = "sample serial  label  weight                    ceiling  linfa-svm says
+     0      1      7  0.25                      at
+     1      2      3  -0.25
+";
+    assert_eq!(weights("weights -c 0.5 -w7 0.5 FILE"), one);
+    let other = one
+        .replace("  at", "")
+        .replace("-0.25", "-0.25                     at");
+    let other: Vec<&str> = other.lines().map(str::trim_end).collect();
+    assert_eq!(
+        weights("weights -c 0.5 -w3 0.5 FILE")
+            .lines()
+            .collect::<Vec<_>>(),
+        other
+    );
+    let wrong = told("weights -w1 2 FILE", &path, "").unwrap_err();
+    assert_eq!(
+        (wrong.status(), wrong.to_string().as_str()),
+        (2, "-w1: no sample has that label (see altuliscia --help)")
+    );
+}
+
+#[test]
+fn the_other_reading_stands_beside_a_weight() {
+    // host/problems/four.txt, whose two readings differ at samples 2 and 3, and whose rho is NaN.
+    let f = folder("readings");
+    let matrix = [
+        4., -4., 3., -3., -4., 3., 2., -2., 3., 2., 4., 0., -3., -2., 0., 5.,
+    ];
+    let path = file(&f, "four", &own(4, &matrix, &[1, 0, 1, 1]));
+    let text = told("weights -e 0 -h 1 --budget 100 FILE", &path, "").unwrap();
+    let found: Vec<Vec<&str>> = text
+        .lines()
+        .skip(1)
+        .map(|l| l.split_whitespace().collect())
+        .collect();
+    assert_eq!(found[1], ["1", "2", "0", "-0.6666666666666666"]);
+    assert_eq!(found[2], ["2", "3", "1", "0.6666666666666666", "0.0"]);
+    assert_eq!(found[3], ["3", "4", "1", "0.0", "0.6666666666666666"]);
+    let model = f.join("model");
+    let text = told(
+        "train -e 0 -h 1 --budget 100 FILE MODEL",
+        &path,
+        model.to_str().unwrap(),
+    )
+    .unwrap();
+    assert!(text.contains("rho = nan\n"), "{}", text);
+    assert!(text.contains(
+        "note: rho is nan, so everything is sorted into one and the same class; train with -h 0\n"
+    ));
+    assert!(text
+        .contains("note: 2 of 4 samples have another weight in the list that linfa-svm answers"));
+    let model = fs::read_to_string(model).unwrap();
+    assert!(
+        model.contains("rho nan\n")
+            && model.ends_with("SV\n0.6666666666666666 0:3\n-0.6666666666666666 0:2\n")
+    );
+}
+
+#[test]
+fn bytes_and_text_give_one_model() {
+    let f = folder("bytes");
+    let figures = Figures::read(include_str!("../../../captions/da-sv.txt")).unwrap();
+    let labels: Vec<u8> = figures.labels(64).iter().map(|y| u8::from(*y)).collect();
+    let bytes = file(&f, "bytes", &own(64, &figures.matrix(64), &labels));
+    let text = file(&f, "text", figures.libsvm_train(64).as_bytes());
+    for line in [
+        "train FILE MODEL",
+        "train -s 1 FILE MODEL",
+        "train -s 2 FILE MODEL -n 0.3",
+    ] {
+        let models = [&bytes, &text].map(|path| {
+            let model = f.join("model");
+            told(line, path, model.to_str().unwrap()).unwrap();
+            fs::read_to_string(model).unwrap()
+        });
+        assert!(models[0].lines().count() > 20);
+        assert_eq!(models[0], models[1]);
+    }
+}
+
+#[test]
+fn each_refusal_has_its_status_and_writes_nothing() {
+    let f = folder("refusals");
+    let figures = Figures::read(include_str!("../../../captions/da-sv.txt")).unwrap();
+    let good = SMALL.as_bytes();
+    let shrunk = figures.libsvm_train(64);
+    for (number, data, options) in [
+        (1, own(513, &[], &[]), ""),
+        (1, Vec::new(), ""),
+        (2, own(2, &[1.0, 0.0, 0.0], &[]), ""),
+        (2, own(2, &[1.0, 0.0, 0.0, 1.0], &[]), ""),
+        (3, own(2, &[1.0, 0.0, 0.0, f64::NAN], &[1, 0]), ""),
+        (4, own(2, &[1.0, 0.0, 0.0, 1.0], &[1, 2]), ""),
+        (5, good.to_vec(), "-c 0"),
+        (8, good.to_vec(), "-e -1"),
+        (9, good.to_vec(), "-s 1 -n 0"),
+        (10, good.to_vec(), "--budget 0"),
+        (11, shrunk.into_bytes(), "-h 1 -e 1e-7"),
+    ] {
+        let (path, model) = (file(&f, "file", &data), file(&f, "model", b"old"));
+        let trouble = told(&format!("train {} FILE MODEL", options), &path, &model).unwrap_err();
+        assert_eq!(trouble.status(), 10 + number);
+        let text = trouble.to_string();
+        assert!(text.contains(&format!("refusal {}", number)), "{}", text);
+        assert_eq!(fs::read(&model).unwrap(), b"old");
+        assert_eq!(fs::read_dir(&f).unwrap().count(), 2);
+        let checked = told(&format!("check {} FILE", options), &path, "");
+        match number {
+            11 => assert!(checked.unwrap().ends_with("64 samples, no fault\n")),
+            _ => assert_eq!(checked.unwrap_err().status(), 10 + number),
+        }
+    }
+}
+
+#[test]
+fn a_check_names_every_fault() {
+    let f = folder("check");
+    let path = file(&f, "a", b"1 0:1 1:nan 2:0\n2 0:2 1:0 2:-1e302\n");
+    let mut out = Vec::new();
+    let words = ["check", "-c", "-1", "-e", "nan", &path].map(str::to_string);
+    let trouble = run(&words, &mut out, false).unwrap_err();
+    assert_eq!(
+        (trouble.status(), trouble.to_string().as_str()),
+        (13, "this problem would be refused")
+    );
+    let kernel = "A kernel entry is NaN, infinite or above 2^1000 in magnitude: the index is column*n + row; scale the kernel down or mend that entry.";
+    let ceiling = "A ceiling is NaN, not above 0 or above 2^1000: the index is its sample, in the C entry 0 for cpos and 1 for cneg; give a ceiling above 0.";
+    let expected = [
+        format!("{}:1: refusal 3 at index 0: {}", path, kernel),
+        format!("{}:2: refusal 3 at index 3: {}", path, kernel),
+        format!("-c, -w: the cost of label 1 is -1: refusal 5 at index 0: {}", ceiling),
+        format!("-c, -w: the cost of label 2 is -1: refusal 5 at index 1: {}", ceiling),
+        "-e NaN: refusal 8: The threshold eps is NaN, infinite or has its sign bit set: give 0 or a finite number above it.".to_string(),
+        format!("{}: 2 samples, 5 faults", path),
+    ];
+    assert_eq!(
+        String::from_utf8(out).unwrap().lines().collect::<Vec<_>>(),
+        expected
+    );
+}
+
+#[test]
+fn a_bad_file_is_told_with_its_line() {
+    let f = folder("bad");
+    let path = file(&f, "a", SMALL.replace("2:1", "2:one").as_bytes());
+    let trouble = told("train FILE MODEL", &path, f.join("model").to_str().unwrap()).unwrap_err();
+    assert_eq!(
+        (trouble.status(), trouble.to_string()),
+        (
+            3,
+            format!("{}:2: '2:one' stands where 2:number should", path)
+        )
+    );
+    let trouble = told("check FILE", "no-such-file", "").unwrap_err();
+    assert_eq!(trouble.status(), 3);
+    assert!(trouble.to_string().starts_with("no-such-file: "));
+    let path = file(&f, "a", b"ALTUPRB1\x02");
+    let trouble = told("weights FILE", &path, "").unwrap_err();
+    assert_eq!(
+        (trouble.status(), trouble.to_string()),
+        (3, format!("{}: the file ends before n", path))
+    );
+    assert_eq!(fs::read_dir(&f).unwrap().count(), 1);
+}
+
+#[test]
+fn where_nothing_can_be_written_nothing_is() {
+    let f = folder("unwritten");
+    let path = file(&f, "a", SMALL.as_bytes());
+    for model in [f.join("none").join("model"), f.clone()] {
+        let trouble = told("train FILE MODEL", &path, model.to_str().unwrap()).unwrap_err();
+        assert_eq!(trouble.status(), 4);
+        assert!(trouble.to_string().starts_with("nothing was written to "));
+    }
+    assert_eq!(fs::read_dir(&f).unwrap().count(), 1);
+}
+
+/// The old file isn't written into: another name of it still has the old text.
+#[test]
+fn a_model_takes_the_place_of_the_old_one() {
+    let f = folder("replaced");
+    let (path, model) = (file(&f, "a", SMALL.as_bytes()), file(&f, "model", b"old"));
+    fs::hard_link(&model, f.join("kept")).unwrap();
+    told("train FILE MODEL", &path, &model).unwrap();
+    assert_eq!(fs::read(f.join("kept")).unwrap(), b"old");
+    assert!(fs::read(&model).unwrap().starts_with(b"svm_type"));
+    assert_eq!(fs::read_dir(&f).unwrap().count(), 3);
+}
+
+#[cfg(unix)]
+#[test]
+fn a_link_stays_a_link_and_a_device_a_device() {
+    let f = folder("links");
+    let (path, model) = (file(&f, "a", SMALL.as_bytes()), file(&f, "model", b"old"));
+    let link = f.join("link");
+    std::os::unix::fs::symlink(&model, &link).unwrap();
+    told("train FILE MODEL", &path, link.to_str().unwrap()).unwrap();
+    assert!(fs::symlink_metadata(&link)
+        .unwrap()
+        .file_type()
+        .is_symlink());
+    assert!(fs::read_to_string(&model).unwrap().starts_with("svm_type"));
+    told("train FILE MODEL", &path, "/dev/null").unwrap();
+    assert!(!fs::metadata("/dev/null").unwrap().is_file());
+}
+
+#[test]
+fn help_is_there_for_all() {
+    for line in [
+        "--help",
+        "train --help",
+        "weights FILE --help",
+        "check --help -c",
+    ] {
+        let text = told(line, "", "").unwrap();
+        assert!(
+            text.starts_with("altuliscia ") && text.contains("Exit status: 0 done, 2"),
+            "{}",
+            line
+        );
+        assert!(text.lines().all(|l| l.chars().count() <= 100), "{}", line);
+    }
+}
+
+/// The program itself, where this machine can start it.
+#[test]
+fn the_program_has_these_statuses() {
+    let f = folder("program");
+    let path = file(&f, "small.txt", SMALL.as_bytes());
+    let program = |words: &[&str]| {
+        let mut command = Command::new(env!("CARGO_BIN_EXE_altuliscia"));
+        command.args(words).current_dir(&f).output()
+    };
+    let output = match program(&["train", &path]) {
+        Ok(output) => output,
+        // An emulator runs this test, but can't start another program for it.
+        Err(e) if e.raw_os_error() == Some(8) => return,
+        Err(e) => panic!("{}", e),
+    };
+    assert_eq!((output.status.code(), output.stderr.len()), (Some(0), 0));
+    assert!(String::from_utf8(output.stdout)
+        .unwrap()
+        .starts_with("optimization finished, #iter = 1\n"));
+    assert!(f.join("small.txt.model").exists());
+    let output = program(&["check", "-e", "-1", &path]).unwrap();
+    assert_eq!(output.status.code(), Some(18));
+    assert_eq!(
+        String::from_utf8(output.stderr).unwrap(),
+        "altuliscia: this problem would be refused\n"
+    );
+    let output = program(&[]).unwrap();
+    assert_eq!((output.status.code(), output.stdout.len()), (Some(2), 0));
+    let told = "altuliscia: a command is missing (see altuliscia --help)\n";
+    assert_eq!(String::from_utf8(output.stderr).unwrap(), told);
+}
