@@ -6,8 +6,7 @@ use lib.Dec.{eqb}
 use lib.Ieee.{Float, binary64, ofBits}
 use lib.ListN.{length}
 use Rattle.classification.specs.Entries.{generalSized, fitCSized, fitNuSized, fitOneClassSized}
-use Rattle.fits.specs.Starts.{nothing}
-use Rattle.hosted.specs.Hosted.{decodedTo, eights, hostSizes, room, Handed, delivered, hostedBy}
+use Rattle.hosted.specs.Hosted.{floatsOf, eights, hostSizes, room, Handed, delivered, hostedBy}
 
 -- a flag is on when it isn't 0
 abbrev pub isOn : ℕ → Bool
@@ -16,9 +15,6 @@ isOn flag = not (eqb flag 0)
 -- a single float travels as a number that holds its eight bytes
 abbrev pub asFloat : ℕ → Float
 asFloat w = ofBits binary64 w
-
-abbrev pub floatsOf : List ℕ → ℕ → List Float
-floatsOf b n = decodedTo b nothing n
 
 abbrev pub sizesOf : ℕ → Bool → List ℕ → List ℕ → List ℕ → List ℕ → ℕ
 sizesOf n inputs m cr h an = hostSizes n inputs (length m) (length cr) (length h) (length an)

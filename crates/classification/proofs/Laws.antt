@@ -4,7 +4,7 @@ use mathlib.Core.Bool.{Bool, true, _&&_}
 use mathlib.Core.List.{List}
 use mathlib.Core.Path.{_≡_, refl, sym}
 use native.Mathlib.Nat.{le-of-eq}
-use borrow.Author.Tests.{leb-true, eqb-true}
+use borrow.Author.Tests.{leb-true}
 use lib.Dec.{eqb, ltb, leb}
 use lib.Ieee.{Float}
 use lib.ListN.{length}
@@ -17,6 +17,7 @@ use Rattle.judge.specs.Judge.{first, entryGood, budgetGood, generalJudged, cJud
 use Rattle.judge.specs.declared.Judged.the-variants.{Fine}
 use Rattle.judge.proofs.Accepted.{matrix-fine, general-fine, c-fine, nu-fine, one-class-fine}
 use Rattle.judge.proofs.First.{both}
+use Rattle.judge.proofs.Lengths.{long-enough}
 use Rattle.kernel.specs.Matrix.{Matrix}
 use Rattle.kernel.specs.declared.Kind.{Kind}
 use Rattle.solver.specs.Run.{problemOf}
@@ -54,15 +55,12 @@ module _ (n : ℕ) (m : List ℕ) (budget : ℕ) (most : n ≤ 512) (long : leng
 
 -- ---- the lengths
 
-pub one-long : (n l : ℕ) → eqb l n ≡ true → n ≤ l
-one-long n l h = le-of-eq (sym (eqb-true l n h))
-
 pub four-long : (n l c a p : ℕ) → (eqb l n && eqb c n && eqb a n && eqb p n) ≡ true → (n ≤ l) × (n ≤ c) × (n ≤ a) × (n ≤ p)
 four-long n l c a p h =
     let h3 = both (eqb l n && eqb c n && eqb a n) (eqb p n) h in
     let h2 = both (eqb l n && eqb c n) (eqb a n) (h3 .0) in
     let h1 = both (eqb l n) (eqb c n) (h2 .0) in
-    (one-long n l (h1 .0), one-long n c (h1 .1), one-long n a (h2 .1), one-long n p (h3 .1))
+    (long-enough n l (h1 .0), long-enough n c (h1 .1), long-enough n a (h2 .1), long-enough n p (h3 .1))
 
 -- ---- the run
 

@@ -1,15 +1,18 @@
 -- What right sizes in bytes give. Assumes nothing.
 use Prim.Native.Nat.{ℕ, _*_, _/_, _%_, _≤_}
 use mathlib.Core.Bool.{Bool, true, _&&_}
-use mathlib.Core.Path.{_≡_, sym}
-use native.Mathlib.Nat.{div-add-mod', le-of-eq}
+use mathlib.Core.List.{List}
+use mathlib.Core.Path.{_≡_}
+use native.Mathlib.Nat.{div-add-mod'}
 use native.Mathlib.Omega.{arith}
 use borrow.Author.Tests.{leb-true, eqb-true}
 use lib.Dec.{eqb, leb}
+use lib.Ieee.{Float}
+use Rattle.answer.specs.Lent.{lent}
 use Rattle.judge.specs.Sizes.{Room}
 use Rattle.judge.proofs.First.{both}
-use Rattle.judge.proofs.Lengths.{inputs-of, room-of}
-use Rattle.hosted.specs.Hosted.{eights, hostSizes}
+use Rattle.judge.proofs.Lengths.{inputs-of, room-of, long-enough}
+use Rattle.hosted.specs.Hosted.{decodedTo, floatsOf, eights, hostSizes, freshPlaces, freshFloats, freshNumbers, freshBytes, room}
 
 pub record Serves (n m cr h an : ℕ) : Type 0 where
   pub room : Room n m 512 512 3584 1024 512
@@ -39,9 +42,6 @@ module _ (n : ℕ) (inputs : Bool) (m cr h an : ℕ) (e : hostSizes n inputs m c
         answer = leb-true 72 an (both-told .1);
       }
 
-pub labels-long : (n l : ℕ) → eqb l n ≡ true → n ≤ l
-labels-long n l h = le-of-eq (sym (eqb-true l n h))
-
 floats-long : (n k : ℕ) → eights n k ≡ true → 8 * n ≤ k
 floats-long n k h =
     let e = eqb-true (k / 8) n (both (eqb (k / 8) n) (eqb (k % 8) 0) h .0) in
@@ -54,4 +54,13 @@ lists-long n l c a p x y z ex ey ez h =
     let h3 = both (eqb l n && x && y) z h in
     let h2 = both (eqb l n && x) y (h3 .0) in
     let h1 = both (eqb l n) x (h2 .0) in
-    (labels-long n l (h1 .0), floats-long n c (rw ex at (h1 .1)), floats-long n a (rw ey at (h2 .1)), floats-long n p (rw ez at (h3 .1)))
+    (long-enough n l (h1 .0), floats-long n c (rw ex at (h1 .1)), floats-long n a (rw ey at (h2 .1)), floats-long n p (rw ez at (h3 .1)))
+
+-- ---- the working room
+
+pub room-given : (c h f : List Float) (u y : List ℕ) → c ≡ freshPlaces → h ≡ freshPlaces → f ≡ freshFloats → u ≡ freshNumbers → y ≡ freshBytes
+    → lent c h f u y ≡ room
+room-given c h f u y ec eh ef eu ey = rw (ec, eh, ef, eu, ey)
+
+pub decoded-fresh : (b : List ℕ) (e d : List Float) (n : ℕ) → e ≡ freshPlaces → d ≡ decodedTo b e n → d ≡ floatsOf b n
+decoded-fresh b e d n x y = rw (y, x)

@@ -40,8 +40,25 @@ eights n k = eqb (k / 8) n && eqb (k % 8) 0
 unfoldable pub hostSizes : ℕ → Bool → ℕ → ℕ → ℕ → ℕ → ℕ
 hostSizes n inputs m cr h an = sizes n (inputs && leb 72 an) m (cr / 8) (h / 8) 3584 1024 512
 
+-- that room: lists of zeros for 512 samples
+unfoldable pub freshPlaces : List Float
+freshPlaces = replicate 512 Weight.zero
+
+unfoldable pub freshFloats : List Float
+freshFloats = replicate 3584 Weight.zero
+
+unfoldable pub freshNumbers : List ℕ
+freshNumbers = replicate 1024 0
+
+unfoldable pub freshBytes : List ℕ
+freshBytes = replicate 512 0
+
 abbrev pub room : Lent
-room = lent (replicate 512 Weight.zero) (replicate 512 Weight.zero) (replicate 3584 Weight.zero) (replicate 1024 0) (replicate 512 0)
+room = lent freshPlaces freshPlaces freshFloats freshNumbers freshBytes
+
+-- n floats from their bytes
+abbrev pub floatsOf : List ℕ → ℕ → List Float
+floatsOf b n = decodedTo b freshPlaces n
 
 -- the result, and the three lists that the host lends to be written
 pub record Handed : Type 0 where

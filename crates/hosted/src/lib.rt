@@ -4,7 +4,7 @@ ghost use mathlib.Core.Bool.{Bool};
 ghost use Prim.Native.Nat.{ℕ, _+_, _*_, _≤_, _<_};
 ghost use lib.ListN.{length};
 ghost use Rattle.answer.specs.Answer.{ratioThere, ratioBits, reasonNumber, wordsOf};
-ghost use Rattle.hosted.specs.Hosted.{decodedTo, storedTo, wordsTo, answeredBy, eights, hostSizes, Handed, handed, deliveredBy, turnedAway};
+ghost use Rattle.hosted.specs.Hosted.{decodedTo, storedTo, wordsTo, answeredBy, eights, hostSizes, Handed, handed, deliveredBy, turnedAway, freshPlaces, freshFloats, freshNumbers, freshBytes};
 use answer::ExitReason;
 use answer::Outcome;
 use answer::Ratio;
@@ -149,4 +149,29 @@ pub fn deliver(
             number
         }
     }
+}
+
+// Working room. No proof unfolds the zeros of a list that a function hands out.
+pub fn places() -> [f64; 512]
+    ensures { λ r. ⌜ (r ≡ freshPlaces) × (512 ≡ length r) ⌝ }
+{
+    [0.0; 512]
+}
+
+pub fn floats() -> [f64; 3584]
+    ensures { λ r. ⌜ (r ≡ freshFloats) × (3584 ≡ length r) ⌝ }
+{
+    [0.0; 3584]
+}
+
+pub fn numbers() -> [u64; 1024]
+    ensures { λ r. ⌜ (r ≡ freshNumbers) × (1024 ≡ length r) ⌝ }
+{
+    [0; 1024]
+}
+
+pub fn bytes() -> [u8; 512]
+    ensures { λ r. ⌜ (r ≡ freshBytes) × (512 ≡ length r) ⌝ }
+{
+    [0; 512]
 }

@@ -1,8 +1,8 @@
 -- What right sizes give. Assumes nothing.
 use Prim.Native.Nat.{ℕ, _*_, _≤_}
 use mathlib.Core.Bool.{Bool, true, false, _&&_, cond}
-use mathlib.Core.Path.{_≡_, refl}
-use native.Mathlib.Nat.{mul-le-mul}
+use mathlib.Core.Path.{_≡_, refl, sym}
+use native.Mathlib.Nat.{mul-le-mul, le-of-eq}
 use native.Mathlib.Omega.{arith}
 use borrow.Author.Tests.{ltb-true, leb-true, eqb-true}
 use lib.Dec.{ltb, leb, eqb}
@@ -11,6 +11,10 @@ use Rattle.judge.proofs.First.{both}
 
 pub square : {n : ℕ} → n ≤ 512 → n * n ≤ 262144
 square h = mul-le-mul h h
+
+-- a list of n places, where n are asked for
+pub long-enough : (n l : ℕ) → eqb l n ≡ true → n ≤ l
+long-enough n l h = le-of-eq (sym (eqb-true l n h))
 
 nought : (a b : Bool) → _≡_ {A = ℕ} (cond a (cond b 0 2) 1) 0 → (a ≡ true) × (b ≡ true)
 nought true true h = (refl, refl)

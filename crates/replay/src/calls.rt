@@ -28,7 +28,7 @@ fn general(
     let c = layout::floats(b, layout::ceilings_at(b), nc);
     let a = layout::floats(b, layout::alphas_at(b), na);
     let p = layout::floats(b, layout::linear_at(b), np);
-    classification::general(
+    general::general(
         layout::word(b, 2) as usize,
         m,
         labels(b),
@@ -56,7 +56,7 @@ fn fit_c(
     u: &mut [u64],
     y: &mut [u8],
 ) -> Outcome {
-    classification::fit_c(
+    fit_c::fit_c(
         layout::word(b, 2) as usize,
         m,
         labels(b),
@@ -82,7 +82,7 @@ fn fit_nu(
     u: &mut [u64],
     y: &mut [u8],
 ) -> Outcome {
-    classification::fit_nu(
+    fit_nu::fit_nu(
         layout::word(b, 2) as usize,
         m,
         labels(b),
@@ -107,7 +107,7 @@ fn fit_one_class(
     u: &mut [u64],
     y: &mut [u8],
 ) -> Outcome {
-    classification::fit_one_class(
+    fit_one_class::fit_one_class(
         layout::word(b, 2) as usize,
         m,
         layout::float(b, 8),

@@ -6,12 +6,9 @@ ghost use Prim.Native.Nat.{ℕ, _+_, _*_, _≤_};
 ghost use lib.Dec.{eqb};
 ghost use lib.ListN.{length};
 ghost use Rattle.solver.specs.End.{trained};
-ghost use Rattle.solver.specs.Run.{problemOf, Full, full};
+ghost use Rattle.solver.specs.Run.{problemOf};
 ghost use Rattle.state.specs.Lists.{State, state, Ready};
-ghost use Rattle.judge.specs.Sizes.{Room};
-ghost use Rattle.kernel.specs.Matrix.{Matrix};
-ghost use Rattle.trial.specs.Trial.{codeOf, givenOf, codedOf, putOf, outOf, Left, left, generalRan, generalSizedRan, generalLeft};
-use judge::Judged;
+ghost use Rattle.trial.specs.Trial.{codeOf, givenOf, codedOf, putOf, outOf};
 use kernel::Kind;
 use rho::Level;
 use solver::Given;
@@ -86,91 +83,4 @@ pub extern "C" fn trial_run(
     let l = rho::level_by(f, y, n, active, nu != 0);
     put(out, l, solver::objective(f, n));
     coded(r)
-}
-
-fn general_ran(
-    n: usize,
-    m: &[u8],
-    l: &[u8],
-    c: &[f64],
-    a: &[f64],
-    p: &[f64],
-    nurule: bool,
-    eps: f64,
-    shrinking: bool,
-    budget: u64,
-    f: &mut [f64],
-    u: &mut [u64],
-    y: &mut [u8],
-) -> u64
-    requires { ⌜ (Room n (length (now m)) n n (length (now f)) (length (now u)) (length (now y))) × (Matrix n (now m)) × (budget ≤ 10000000) × (n ≤ length (now l)) × (n ≤ length (now c)) × (n ≤ length (now a)) × (n ≤ length (now p)) ⌝ }
-    ensures { λ k. ⌜ _≡_ {A = Left} (left k (now (f .exit)) (now (u .exit)) (now (y .exit)))
-        (generalRan n (now (m .entry)) (now (l .entry)) (now (c .entry)) (now (a .entry)) (now (p .entry)) nurule eps shrinking budget (state (now (f .entry)) (now (u .entry)) (now (y .entry)))) ⌝ }
-{
-    fits::load(f, u, y, l, c, a, p, n);
-    let g = Given {
-        n,
-        side: n,
-        kind: Kind::TwoClass,
-        floor: 1e-10,
-        eps,
-        shrinking,
-        nu: nurule,
-    };
-    let r = solver::train(f, u, y, m, c, g, budget as usize);
-    coded(r)
-}
-
-fn general_sized(
-    n: usize,
-    m: &[u8],
-    l: &[u8],
-    c: &[f64],
-    a: &[f64],
-    p: &[f64],
-    nurule: bool,
-    eps: f64,
-    shrinking: bool,
-    budget: u64,
-    f: &mut [f64],
-    u: &mut [u64],
-    y: &mut [u8],
-) -> u64
-    requires { ⌜ (Room n (length (now m)) n n (length (now f)) (length (now u)) (length (now y))) × (n ≤ length (now l)) × (n ≤ length (now c)) × (n ≤ length (now a)) × (n ≤ length (now p)) ⌝ }
-    ensures { λ k. ⌜ _≡_ {A = Left} (left k (now (f .exit)) (now (u .exit)) (now (y .exit)))
-        (generalSizedRan n (now (m .entry)) (now (l .entry)) (now (c .entry)) (now (a .entry)) (now (p .entry)) nurule eps shrinking budget (state (now (f .entry)) (now (u .entry)) (now (y .entry)))) ⌝ }
-{
-    let j = judge::general_judged(n, m, l, c, a, p, eps, budget);
-    match j {
-        Judged::Fine => general_ran(n, m, l, c, a, p, nurule, eps, shrinking, budget, f, u, y),
-        Judged::Bad(_, _) => 3,
-    }
-}
-
-// The general run with its lists left as it ends: weights by position and the order can be seen. 3 where the general entry would
-// refuse with 1 to 10, the lists untouched; else 4·iterations and how it ended.
-pub fn general_left(
-    n: usize,
-    m: &[u8],
-    l: &[u8],
-    c: &[f64],
-    a: &[f64],
-    p: &[f64],
-    nurule: bool,
-    eps: f64,
-    shrinking: bool,
-    budget: u64,
-    f: &mut [f64],
-    u: &mut [u64],
-    y: &mut [u8],
-) -> u64
-    ensures { λ k. ⌜ _≡_ {A = Left} (left k (now (f .exit)) (now (u .exit)) (now (y .exit)))
-        (generalLeft n (now (m .entry)) (now (l .entry)) (now (c .entry)) (now (a .entry)) (now (p .entry)) nurule eps shrinking budget (state (now (f .entry)) (now (u .entry)) (now (y .entry)))) ⌝ }
-{
-    let inputs = (l.len() == n) & (c.len() == n) & (a.len() == n) & (p.len() == n);
-    let s = judge::sized(n, inputs, m.len(), n, n, f.len(), u.len(), y.len());
-    if s == 0 {
-        return general_sized(n, m, l, c, a, p, nurule, eps, shrinking, budget, f, u, y);
-    }
-    3
 }

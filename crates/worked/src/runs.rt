@@ -10,7 +10,7 @@ fn c(name: &[u8], n: usize, m: &[u8], l: &[u8], cost: f64, shrinking: bool, budg
     let mut f = room::floats();
     let mut u = room::numbers();
     let mut y = room::bytes();
-    let o = classification::fit_c(
+    let o = fit_c::fit_c(
         n,
         m,
         l,
@@ -34,7 +34,7 @@ fn nu(name: &[u8], m: &[u8], l: &[u8], nu: f64) {
     let mut f = room::floats();
     let mut u = room::numbers();
     let mut y = room::bytes();
-    let o = classification::fit_nu(
+    let o = fit_nu::fit_nu(
         2,
         m,
         l,
@@ -57,7 +57,7 @@ fn one_class(name: &[u8], m: &[u8], nu: f64) {
     let mut f = room::floats();
     let mut u = room::numbers();
     let mut y = room::bytes();
-    let o = classification::fit_one_class(
+    let o = fit_one_class::fit_one_class(
         2,
         m,
         nu,
@@ -80,7 +80,7 @@ fn general(name: &[u8], n: usize, m: &[u8], l: &[u8], c: &[f64], a: &[f64], p: &
     let mut f = room::floats();
     let mut u = room::numbers();
     let mut y = room::bytes();
-    let o = classification::general(
+    let o = general::general(
         n,
         m,
         l,

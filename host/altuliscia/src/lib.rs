@@ -33,6 +33,7 @@
 #![deny(missing_docs, unsafe_code)]
 
 mod call;
+mod functions;
 mod refusal;
 
 pub use refusal::Refusal;

@@ -1,28 +1,15 @@
 //! The four C functions. Every list is lent at an address of its own, odd ones too, between bytes that must stay.
+#[path = "../../../host/altuliscia/src/functions.rs"]
+mod functions;
+
 use crate::reached::{tell, Reached};
+use functions::{altuliscia_c, altuliscia_general, altuliscia_nu, altuliscia_one_class};
 use oracle::draw::draw_big;
 use oracle::judge::Refusal;
 use oracle::problem::{Entry, Problem, MOST_SAMPLES};
 use oracle::random::Random;
 use oracle::run::{canonical, solve, Answer, Events, Outcome, Reason};
 use std::ptr::null_mut;
-
-#[rustfmt::skip]
-extern "C" {
-    fn altuliscia_general(n: usize, matrix: *const u8, matrix_len: usize, labels: *const u8, labels_len: usize,
-        ceilings: *const u8, ceilings_len: usize, alphas: *const u8, alphas_len: usize, linear: *const u8, linear_len: usize,
-        nu_rule: u8, eps: u64, shrinking: u8, budget: u64, crate_reading: *mut u8, crate_reading_len: usize,
-        home: *mut u8, home_len: usize, answer: *mut u8, answer_len: usize) -> u64;
-    fn altuliscia_c(n: usize, matrix: *const u8, matrix_len: usize, labels: *const u8, labels_len: usize,
-        cpos: u64, cneg: u64, eps: u64, shrinking: u8, budget: u64, crate_reading: *mut u8, crate_reading_len: usize,
-        home: *mut u8, home_len: usize, answer: *mut u8, answer_len: usize) -> u64;
-    fn altuliscia_nu(n: usize, matrix: *const u8, matrix_len: usize, labels: *const u8, labels_len: usize,
-        nu: u64, eps: u64, shrinking: u8, budget: u64, crate_reading: *mut u8, crate_reading_len: usize,
-        home: *mut u8, home_len: usize, answer: *mut u8, answer_len: usize) -> u64;
-    fn altuliscia_one_class(n: usize, matrix: *const u8, matrix_len: usize,
-        nu: u64, eps: u64, shrinking: u8, budget: u64, crate_reading: *mut u8, crate_reading_len: usize,
-        home: *mut u8, home_len: usize, answer: *mut u8, answer_len: usize) -> u64;
-}
 
 const ANSWER: usize = 72;
 /// How many bytes stand before and past a lent list at the least.

@@ -2,23 +2,24 @@ use mathlib.Core.Path.{sym, _∙_}
 use denote.Ref.{now}
 use borrow.Author.Tests.{eq-eqb, ne-eqb}
 use lib.ListN.{length}
+use Rattle.judge.proofs.Lengths.{long-enough}
 use Rattle.hosted.specs.Hosted.{hostedBy}
-use Rattle.hosted.proofs.Serves.{serves, inputs-right, labels-long}
+use Rattle.hosted.proofs.Serves.{serves, inputs-right}
 use Rattle.altuliscia.specs.Functions.{cHost}
 use borrow.Author.Needs.{needs}
 use Rattle.altuliscia.proofs.altuliscia_c.Statement.{statement}
 use Rattle.altuliscia.proofs.altuliscia_c.Tie as tie
 
-c-roomed-requires : tie.Need-c-roomed-requires
-c-roomed-requires c κs =
+c-requires : tie.Need-c-requires
+c-requires c κs =
     let s = c .before .before .before .before .before .before .before .before .before .before .before .before .before in
     let e = sym (c .before .before .before .before .before .before .before .sized .ensures) ∙ c .before .before .before .before .before .before .if1 .taken in
     let r = serves (s .args .n) _ _ _ _ _ e in
-    (r .room, labels-long (s .args .n) (length (now (s .args .l))) (inputs-right (s .args .n) _ _ _ _ _ e), r .crate, r .home, r .answer)
+    (r .room, long-enough (s .args .n) (length (now (s .args .l))) (inputs-right (s .args .n) _ _ _ _ _ e), r .crate, r .home, r .answer)
 
 returns : tie.Need-returns
 unfolding cHost hostedBy
-returns c = rw (← c .before .before .before .before .before .before .before .before .before .before .before .before .before .before .sized .ensures, eq-eqb _ _ (c .before .before .before .before .before .before .before .before .before .before .before .before .before .if1 .taken), ← c .before .before .before .before .before .before .before .before .before .before .float-of3 .ensures, ← c .before .before .before .before .before .before .before .before .before .before .before .float-of2 .ensures, ← c .before .before .before .before .before .before .before .before .before .before .before .before .float-of .ensures) (c .before .before .before .before .before .before .c-roomed .ensures)
+returns c = rw (← c .before .before .before .before .before .before .before .before .before .before .before .before .before .before .sized .ensures, eq-eqb _ _ (c .before .before .before .before .before .before .before .before .before .before .before .before .before .if1 .taken), ← c .before .before .before .before .before .before .before .before .before .before .float-of3 .ensures, ← c .before .before .before .before .before .before .before .before .before .before .before .float-of2 .ensures, ← c .before .before .before .before .before .before .before .before .before .before .before .before .float-of .ensures) (c .before .before .before .before .before .before .c .ensures)
 
 returns-2 : tie.Need-returns-2
 unfolding cHost hostedBy
@@ -32,7 +33,7 @@ altuliscia-c-spec =
     (λ c κs. search needs)
     (λ c κs. search needs)
     (λ c κs. search needs)
-    c-roomed-requires
+    c-requires
     (λ c. search needs)
     (λ c. search needs)
     (λ c. search needs)

@@ -9,8 +9,8 @@ use borrow.Author.Needs.{needs}
 use Rattle.altuliscia.proofs.altuliscia_general.Statement.{statement}
 use Rattle.altuliscia.proofs.altuliscia_general.Tie as tie
 
-general-decoded-requires : tie.Need-general-decoded-requires
-general-decoded-requires c κs =
+general-requires : tie.Need-general-requires
+general-requires c κs =
     let s = c .before .before .before .before .before .before .before .before .before .before .before .before .before .before .before .before .before in
     let e = sym (c .before .before .before .before .before .sized .ensures) ∙ c .before .before .before .before .if1 .taken in
     let r = serves (s .args .n) _ _ _ _ _ e in
@@ -22,7 +22,7 @@ general-decoded-requires c κs =
 
 returns : tie.Need-returns
 unfolding generalHost hostedBy
-returns c = rw (← c .before .before .before .before .before .before .before .before .before .before .before .before .before .before .before .are-floats .ensures, ← c .before .before .before .before .before .before .before .before .before .before .before .before .before .before .are-floats2 .ensures, ← c .before .before .before .before .before .before .before .before .before .before .before .before .before .are-floats3 .ensures, ← c .before .before .before .before .before .before .before .before .before .before .before .before .sized .ensures, eq-eqb _ _ (c .before .before .before .before .before .before .before .before .before .before .before .if1 .taken), ← c .before .before .before .before .before .before .before .before .before .before .float-of .ensures) (c .before .before .before .before .before .before .general-decoded .ensures)
+returns c = rw (← c .before .before .before .before .before .before .before .before .before .before .before .before .before .before .before .are-floats .ensures, ← c .before .before .before .before .before .before .before .before .before .before .before .before .before .before .are-floats2 .ensures, ← c .before .before .before .before .before .before .before .before .before .before .before .before .before .are-floats3 .ensures, ← c .before .before .before .before .before .before .before .before .before .before .before .before .sized .ensures, eq-eqb _ _ (c .before .before .before .before .before .before .before .before .before .before .before .if1 .taken), ← c .before .before .before .before .before .before .before .before .before .before .float-of .ensures) (c .before .before .before .before .before .before .general .ensures)
 
 returns-2 : tie.Need-returns-2
 unfolding generalHost hostedBy
@@ -37,7 +37,7 @@ altuliscia-general-spec =
     (λ c κs. search needs)
     (λ c κs. search needs)
     (λ c κs. search needs)
-    general-decoded-requires
+    general-requires
     (λ c. search needs)
     (λ c. search needs)
     (λ c. search needs)

@@ -2,23 +2,24 @@ use mathlib.Core.Path.{sym, _∙_}
 use denote.Ref.{now}
 use borrow.Author.Tests.{eq-eqb, ne-eqb}
 use lib.ListN.{length}
+use Rattle.judge.proofs.Lengths.{long-enough}
 use Rattle.hosted.specs.Hosted.{hostedBy}
-use Rattle.hosted.proofs.Serves.{serves, inputs-right, labels-long}
+use Rattle.hosted.proofs.Serves.{serves, inputs-right}
 use Rattle.altuliscia.specs.Functions.{nuHost}
 use borrow.Author.Needs.{needs}
 use Rattle.altuliscia.proofs.altuliscia_nu.Statement.{statement}
 use Rattle.altuliscia.proofs.altuliscia_nu.Tie as tie
 
-nu-roomed-requires : tie.Need-nu-roomed-requires
-nu-roomed-requires c κs =
+nu-requires : tie.Need-nu-requires
+nu-requires c κs =
     let s = c .before .before .before .before .before .before .before .before .before .before .before .before in
     let e = sym (c .before .before .before .before .before .before .sized .ensures) ∙ c .before .before .before .before .before .if1 .taken in
     let r = serves (s .args .n) _ _ _ _ _ e in
-    (r .room, labels-long (s .args .n) (length (now (s .args .l))) (inputs-right (s .args .n) _ _ _ _ _ e), r .crate, r .home, r .answer)
+    (r .room, long-enough (s .args .n) (length (now (s .args .l))) (inputs-right (s .args .n) _ _ _ _ _ e), r .crate, r .home, r .answer)
 
 returns : tie.Need-returns
 unfolding nuHost hostedBy
-returns c = rw (← c .before .before .before .before .before .before .before .before .before .before .before .before .before .sized .ensures, eq-eqb _ _ (c .before .before .before .before .before .before .before .before .before .before .before .before .if1 .taken), ← c .before .before .before .before .before .before .before .before .before .before .float-of2 .ensures, ← c .before .before .before .before .before .before .before .before .before .before .before .float-of .ensures) (c .before .before .before .before .before .before .nu-roomed .ensures)
+returns c = rw (← c .before .before .before .before .before .before .before .before .before .before .before .before .before .sized .ensures, eq-eqb _ _ (c .before .before .before .before .before .before .before .before .before .before .before .before .if1 .taken), ← c .before .before .before .before .before .before .before .before .before .before .float-of2 .ensures, ← c .before .before .before .before .before .before .before .before .before .before .before .float-of .ensures) (c .before .before .before .before .before .before .nu .ensures)
 
 returns-2 : tie.Need-returns-2
 unfolding nuHost hostedBy
@@ -31,7 +32,7 @@ altuliscia-nu-spec =
     (λ c κs. search needs)
     (λ c κs. search needs)
     (λ c κs. search needs)
-    nu-roomed-requires
+    nu-requires
     (λ c. search needs)
     (λ c. search needs)
     (λ c. search needs)

@@ -7,8 +7,8 @@ use borrow.Author.Needs.{needs}
 use Rattle.altuliscia.proofs.altuliscia_one_class.Statement.{statement}
 use Rattle.altuliscia.proofs.altuliscia_one_class.Tie as tie
 
-one-class-roomed-requires : tie.Need-one-class-roomed-requires
-one-class-roomed-requires c κs =
+one-class-requires : tie.Need-one-class-requires
+one-class-requires c κs =
     let s = c .before .before .before .before .before .before .before .before .before .before .before in
     let e = sym (c .before .before .before .before .before .before .sized .ensures) ∙ c .before .before .before .before .before .if1 .taken in
     let r = serves (s .args .n) _ _ _ _ _ e in
@@ -16,7 +16,7 @@ one-class-roomed-requires c κs =
 
 returns : tie.Need-returns
 unfolding oneClassHost hostedBy
-returns c = rw (← c .before .before .before .before .before .before .before .before .before .before .before .before .before .sized .ensures, eq-eqb _ _ (c .before .before .before .before .before .before .before .before .before .before .before .before .if1 .taken), ← c .before .before .before .before .before .before .before .before .before .before .float-of2 .ensures, ← c .before .before .before .before .before .before .before .before .before .before .before .float-of .ensures) (c .before .before .before .before .before .before .one-class-roomed .ensures)
+returns c = rw (← c .before .before .before .before .before .before .before .before .before .before .before .before .before .sized .ensures, eq-eqb _ _ (c .before .before .before .before .before .before .before .before .before .before .before .before .if1 .taken), ← c .before .before .before .before .before .before .before .before .before .before .float-of2 .ensures, ← c .before .before .before .before .before .before .before .before .before .before .before .float-of .ensures) (c .before .before .before .before .before .before .one-class .ensures)
 
 returns-2 : tie.Need-returns-2
 unfolding oneClassHost hostedBy
@@ -29,7 +29,7 @@ altuliscia-one-class-spec =
     (λ c κs. search needs)
     (λ c κs. search needs)
     (λ c κs. search needs)
-    one-class-roomed-requires
+    one-class-requires
     (λ c. search needs)
     (λ c. search needs)
     (λ c. search needs)

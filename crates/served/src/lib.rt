@@ -1,0 +1,208 @@
+// Each entry for a host that lends no scratch: after refusals 1 and 2, with working room of its own.
+ghost use mathlib.Core.Path.{_≡_};
+ghost use Prim.Native.Nat.{ℕ, _*_, _≤_};
+ghost use lib.ListN.{length};
+ghost use Rattle.classification.specs.Entries.{generalSized, fitCSized, fitNuSized, fitOneClassSized};
+ghost use Rattle.hosted.specs.Hosted.{floatsOf, room, Handed, handed, delivered};
+ghost use Rattle.judge.specs.Sizes.{Room};
+
+fn general_roomed(
+    n: usize,
+    m: &[u8],
+    l: &[u8],
+    c: &[f64],
+    a: &[f64],
+    p: &[f64],
+    nurule: bool,
+    eps: f64,
+    shrinking: bool,
+    budget: u64,
+    cr: &mut [u8],
+    h: &mut [u8],
+    answer: &mut [u8],
+) -> u64
+    requires { ⌜ (Room n (length (now m)) 512 512 3584 1024 512) × (n ≤ length (now l)) × (n ≤ length (now c)) × (n ≤ length (now a)) × (n ≤ length (now p)) × (8 * n ≤ length (now cr)) × (8 * n ≤ length (now h)) × (72 ≤ length (now answer)) ⌝ }
+    ensures { λ k. ⌜ _≡_ {A = Handed} (handed k (now (cr .exit)) (now (h .exit)) (now (answer .exit)))
+        (delivered n (generalSized n (now (m .entry)) (now (l .entry)) (now (c .entry)) (now (a .entry)) (now (p .entry)) nurule eps shrinking budget room) (now (cr .entry)) (now (h .entry)) (now (answer .entry))) ⌝ }
+{
+    let mut c2 = hosted::places();
+    let mut h2 = hosted::places();
+    let mut f = hosted::floats();
+    let mut u = hosted::numbers();
+    let mut y = hosted::bytes();
+    let o = general::sized(
+        n,
+        m,
+        l,
+        c,
+        a,
+        p,
+        nurule,
+        eps,
+        shrinking,
+        budget,
+        &mut c2,
+        &mut h2,
+        &mut f,
+        &mut u,
+        &mut y,
+    );
+    hosted::deliver(cr, h, answer, &c2, &h2, n, o)
+}
+
+// Ceilings, alphas and linear terms are read from their bytes.
+pub fn general(
+    n: usize,
+    m: &[u8],
+    l: &[u8],
+    c: &[u8],
+    a: &[u8],
+    p: &[u8],
+    nurule: bool,
+    eps: f64,
+    shrinking: bool,
+    budget: u64,
+    cr: &mut [u8],
+    h: &mut [u8],
+    answer: &mut [u8],
+) -> u64
+    requires { ⌜ (Room n (length (now m)) 512 512 3584 1024 512) × (n ≤ length (now l)) × (8 * n ≤ length (now c)) × (8 * n ≤ length (now a)) × (8 * n ≤ length (now p)) × (8 * n ≤ length (now cr)) × (8 * n ≤ length (now h)) × (72 ≤ length (now answer)) ⌝ }
+    ensures { λ k. ⌜ _≡_ {A = Handed} (handed k (now (cr .exit)) (now (h .exit)) (now (answer .exit)))
+        (delivered n (generalSized n (now (m .entry)) (now (l .entry)) (floatsOf (now (c .entry)) n) (floatsOf (now (a .entry)) n) (floatsOf (now (p .entry)) n) nurule eps shrinking budget room) (now (cr .entry)) (now (h .entry)) (now (answer .entry))) ⌝ }
+{
+    let mut dc = hosted::places();
+    let mut da = hosted::places();
+    let mut dp = hosted::places();
+    hosted::decode(&mut dc, c, n);
+    hosted::decode(&mut da, a, n);
+    hosted::decode(&mut dp, p, n);
+    general_roomed(
+        n,
+        m,
+        l,
+        &dc,
+        &da,
+        &dp,
+        nurule,
+        eps,
+        shrinking,
+        budget,
+        cr,
+        h,
+        answer,
+    )
+}
+
+pub fn c(
+    n: usize,
+    m: &[u8],
+    l: &[u8],
+    cpos: f64,
+    cneg: f64,
+    eps: f64,
+    shrinking: bool,
+    budget: u64,
+    cr: &mut [u8],
+    h: &mut [u8],
+    answer: &mut [u8],
+) -> u64
+    requires { ⌜ (Room n (length (now m)) 512 512 3584 1024 512) × (n ≤ length (now l)) × (8 * n ≤ length (now cr)) × (8 * n ≤ length (now h)) × (72 ≤ length (now answer)) ⌝ }
+    ensures { λ k. ⌜ _≡_ {A = Handed} (handed k (now (cr .exit)) (now (h .exit)) (now (answer .exit)))
+        (delivered n (fitCSized n (now (m .entry)) (now (l .entry)) cpos cneg eps shrinking budget room) (now (cr .entry)) (now (h .entry)) (now (answer .entry))) ⌝ }
+{
+    let mut c2 = hosted::places();
+    let mut h2 = hosted::places();
+    let mut f = hosted::floats();
+    let mut u = hosted::numbers();
+    let mut y = hosted::bytes();
+    let o = fit_c::sized(
+        n,
+        m,
+        l,
+        cpos,
+        cneg,
+        eps,
+        shrinking,
+        budget,
+        &mut c2,
+        &mut h2,
+        &mut f,
+        &mut u,
+        &mut y,
+    );
+    hosted::deliver(cr, h, answer, &c2, &h2, n, o)
+}
+
+pub fn nu(
+    n: usize,
+    m: &[u8],
+    l: &[u8],
+    nu: f64,
+    eps: f64,
+    shrinking: bool,
+    budget: u64,
+    cr: &mut [u8],
+    h: &mut [u8],
+    answer: &mut [u8],
+) -> u64
+    requires { ⌜ (Room n (length (now m)) 512 512 3584 1024 512) × (n ≤ length (now l)) × (8 * n ≤ length (now cr)) × (8 * n ≤ length (now h)) × (72 ≤ length (now answer)) ⌝ }
+    ensures { λ k. ⌜ _≡_ {A = Handed} (handed k (now (cr .exit)) (now (h .exit)) (now (answer .exit)))
+        (delivered n (fitNuSized n (now (m .entry)) (now (l .entry)) nu eps shrinking budget room) (now (cr .entry)) (now (h .entry)) (now (answer .entry))) ⌝ }
+{
+    let mut c2 = hosted::places();
+    let mut h2 = hosted::places();
+    let mut f = hosted::floats();
+    let mut u = hosted::numbers();
+    let mut y = hosted::bytes();
+    let o = fit_nu::sized(
+        n,
+        m,
+        l,
+        nu,
+        eps,
+        shrinking,
+        budget,
+        &mut c2,
+        &mut h2,
+        &mut f,
+        &mut u,
+        &mut y,
+    );
+    hosted::deliver(cr, h, answer, &c2, &h2, n, o)
+}
+
+pub fn one_class(
+    n: usize,
+    m: &[u8],
+    nu: f64,
+    eps: f64,
+    shrinking: bool,
+    budget: u64,
+    cr: &mut [u8],
+    h: &mut [u8],
+    answer: &mut [u8],
+) -> u64
+    requires { ⌜ (Room n (length (now m)) 512 512 3584 1024 512) × (8 * n ≤ length (now cr)) × (8 * n ≤ length (now h)) × (72 ≤ length (now answer)) ⌝ }
+    ensures { λ k. ⌜ _≡_ {A = Handed} (handed k (now (cr .exit)) (now (h .exit)) (now (answer .exit)))
+        (delivered n (fitOneClassSized n (now (m .entry)) nu eps shrinking budget room) (now (cr .entry)) (now (h .entry)) (now (answer .entry))) ⌝ }
+{
+    let mut c2 = hosted::places();
+    let mut h2 = hosted::places();
+    let mut f = hosted::floats();
+    let mut u = hosted::numbers();
+    let mut y = hosted::bytes();
+    let o = fit_one_class::sized(
+        n,
+        m,
+        nu,
+        eps,
+        shrinking,
+        budget,
+        &mut c2,
+        &mut h2,
+        &mut f,
+        &mut u,
+        &mut y,
+    );
+    hosted::deliver(cr, h, answer, &c2, &h2, n, o)
+}
