@@ -6,6 +6,7 @@ use lib.Dec.{eqb}
 use lib.Ieee.{Float, neg}
 use lib.ListN.{length}
 use Rattle.alpha.specs.Weight as Weight
+use Rattle.alpha.specs.Weight.{one, minusOne}
 use Rattle.answer.specs.Lent.{Lent, lent, Whole, untouched}
 use Rattle.answer.specs.Solved.{solved}
 use Rattle.answer.specs.declared.Finish.{Finish}
@@ -20,7 +21,6 @@ use Rattle.judge.specs.declared.Judged.{Judged}
 use Rattle.judge.specs.declared.Judged.the-variants.{Fine, Bad}
 use Rattle.kernel.specs.declared.Kind.{Kind}
 use Rattle.kernel.specs.declared.Kind.the-variants.{TwoClass, OneClass}
-use Rattle.rho.specs.Rho.{one, minusOne}
 use Rattle.solver.specs.declared.Given.{Given}
 use Rattle.state.specs.Lists.{State, state}
 

@@ -6,9 +6,9 @@ use lib.Dec.{eqb, ltb}
 use lib.Ieee.{Float, binary64, neg, sub, mul, div}
 use lib.ListN.{getD, set, replicate}
 use Rattle.alpha.specs.Weight as Weight
+use Rattle.alpha.specs.Weight.{one, two}
 use Rattle.lists.specs.Filled.{filledTo}
 use Rattle.floats.specs.Helpers.{minOf, wholeAsFloat, wholeProduct}
-use Rattle.rho.specs.Rho.{one, two}
 use Rattle.fits.specs.declared.Rest.{Rest}
 
 abbrev pub nothing : List Float

@@ -13,12 +13,12 @@ use lib.Ieee.Bits.{cond-no, ofBits-fits}
 use lib.Ieee.Digits.{Equals, odd-val, size-le}
 use lib.Ieee.Fits.{down-pos, kept-lt}
 use lib.Ieee.Scale.{overflow, finite}
-use Rattle.alpha.specs.Weight.{limit}
+use Rattle.alpha.specs.Weight.{limit, one}
 use Rattle.rounding.specs.Units.{Real, Number, magnitude, plus, minus}
 use Rattle.rounding.proofs.Binary64.{limit-parts}
 use Rattle.rounding.proofs.Order.{holds}
 use Rattle.rounding.proofs.Units.{compare, magnitude-is, neg-parts, value}
-use Rattle.judge.specs.Judge.{one, epsGood}
+use Rattle.judge.specs.Judge.{epsGood}
 
 -- ---- what the fields of a pattern are read as
 

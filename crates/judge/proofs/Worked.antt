@@ -3,10 +3,10 @@ use mathlib.Core.Bool.{true, false}
 use mathlib.Core.List.{_∷_, []}
 use mathlib.Core.Path.{_≡_, refl}
 use lib.Ieee.{Float, binary64, ofBits, neg, lt, le}
-use Rattle.alpha.specs.Weight.{limit, zero}
+use Rattle.alpha.specs.Weight.{limit, zero, one}
 use Rattle.judge.specs.declared.Judged.the-variants.{Fine, Bad}
 use Rattle.judge.specs.Sizes.{sizes}
-use Rattle.judge.specs.Judge.{first, need, after, inLimit, isCeiling, isStart, labelGood, linearGood, costGood, one, epsGood, nuGood, budgetGood}
+use Rattle.judge.specs.Judge.{first, need, after, inLimit, isCeiling, isStart, labelGood, linearGood, costGood, epsGood, nuGood, budgetGood}
 
 -- the floats next above 2^1000 and 1, −0, +∞, and a NaN
 abbrev over : Float

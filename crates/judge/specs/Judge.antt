@@ -6,7 +6,7 @@ use lib.Dec.{ltb, leb}
 use lib.ListN.{getD}
 use lib.Ieee.{Float, nan, binary64, ofBits, neg, lt, le}
 use lib.Ieee.Scale.{finite}
-use Rattle.alpha.specs.Weight.{limit, zero as nought}
+use Rattle.alpha.specs.Weight.{limit, zero as nought, one}
 use Rattle.rounding.specs.Units.{negative}
 use Rattle.wire.specs.Wire.{floatAt}
 use Rattle.judge.specs.declared.Judged.{Judged}
@@ -71,10 +71,6 @@ linearGood p k = finite (getD p k nan)
 -- 8: −0 has its sign bit set
 unfoldable pub epsGood : Float → Bool
 epsGood eps = finite eps && not (negative eps)
-
--- 1
-abbrev pub one : Float
-one = ofBits binary64 0x3ff0_0000_0000_0000
 
 -- 9
 unfoldable pub nuGood : Float → Bool

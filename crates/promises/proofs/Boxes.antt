@@ -10,6 +10,7 @@ use lib.Ieee.{Float, nan, binary64, ofBits, fits, isNan, le}
 use lib.Ieee.Bits.{ofBits-fits}
 use lib.ListN.{length, getD, replicate, length-replicate, getD-replicate}
 use Rattle.alpha.specs.Weight as Weight
+use Rattle.alpha.specs.Weight.{one}
 use Rattle.answer.specs.Lent.{Lent}
 use Rattle.answer.specs.declared.Answer.{Answer}
 use Rattle.answer.specs.declared.Outcome.the-variants.{Accepted}
@@ -22,7 +23,6 @@ use Rattle.judge.specs.Judge.{isCeiling, ceilingGood, alphaGood}
 use Rattle.judge.proofs.Accepted.{general-fine, c-fine, nu-fine, one-class-fine, alpha-within, nu-within}
 use Rattle.judge.proofs.First.{first-fine}
 use Rattle.lists.proofs.Prefix.{prefix-at, filled-at}
-use Rattle.rho.specs.Rho.{one}
 use Rattle.rounding.specs.Units.{Real}
 use Rattle.rounding.proofs.Order.{le-refl}
 use Rattle.travel.specs.Home.{lastLeft}

@@ -6,6 +6,7 @@ use mathlib.Core.Path.{_≡_, refl, sym, ap, _∙_}
 use lib.Dec.{eqb}
 use lib.Ieee.{Float, nan}
 use lib.ListN.{length, getD}
+use Rattle.alpha.specs.Weight.{minusOne}
 use Rattle.answer.specs.Lent.{Lent, Whole}
 use Rattle.answer.specs.declared.Answer.{Answer}
 use Rattle.answer.specs.declared.Outcome.the-variants.{Accepted}
@@ -15,7 +16,6 @@ use Rattle.fits.specs.Starts.{nothing, evenly, allPositive}
 use Rattle.judge.specs.Judge.{generalJudged, cJudged, nuJudged, oneClassJudged}
 use Rattle.judge.specs.declared.Judged.the-variants.{Fine}
 use Rattle.judge.proofs.Lengths.{room-of}
-use Rattle.rho.specs.Rho.{minusOne}
 use Rattle.travel.specs.Travel.{Travelled}
 use Rattle.promises.specs.Fit.{Fit, generalFit, cFit, nuFit, oneClassFit, after, homeOf}
 use Rattle.promises.proofs.Accepts.{entered-in, decided-in}

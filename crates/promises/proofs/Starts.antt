@@ -15,13 +15,13 @@ use lib.Ieee.Order.{round-mono}
 use lib.Ieee.Scale.{finite, overflow}
 use lib.ListN.{length, getD, set, length-replicate}
 use Rattle.alpha.specs.Weight as Weight
+use Rattle.alpha.specs.Weight.{one, two}
 use Rattle.boxed.specs.Range.{Ceiling, In}
 use Rattle.fits.specs.Starts.{nothing, half, givenFrom, restAfter, restTo, sharedTo, oneClassAt, oneClassTo}
 use Rattle.fits.specs.declared.Rest.{Rest}
 use Rattle.floats.specs.Helpers.{minOf, wholeAsFloat, wholeProduct}
 use Rattle.floats.proofs.Laws.{min-picks, whole-largest}
 use Rattle.lists.proofs.Prefix.{prefix-at}
-use Rattle.rho.specs.Rho.{one, two}
 use Rattle.rounding.specs.Units.{Number, Parts, plus, minus, magnitude, negative, Rounds, nought}
 use Rattle.rounding.proofs.Binary64.{zero-is, limit-parts, whole-parts}
 use Rattle.rounding.proofs.Order.{le-real, lt-real, le-refl}

@@ -4,6 +4,7 @@ use mathlib.Core.Bool.{Bool, true, false}
 use mathlib.Core.List.{List}
 use lib.Ieee.{Float, nan}
 use lib.ListN.{getD}
+use Rattle.alpha.specs.Weight.{one, minusOne}
 use Rattle.answer.specs.Answer.{coefficientOf}
 use Rattle.answer.specs.Lent.{Lent}
 use Rattle.answer.specs.Solved.{levelAt}
@@ -15,7 +16,6 @@ use Rattle.extreme.specs.declared.Choice.{Choice}
 use Rattle.fits.specs.Load.{loaded}
 use Rattle.fits.specs.Starts.{nothing, evenly, allPositive, costsTo, half, sharedTo, oneClassTo}
 use Rattle.kernel.specs.declared.Kind.the-variants.{TwoClass, OneClass}
-use Rattle.rho.specs.Rho.{one, minusOne}
 use Rattle.solver.specs.End.{trained}
 use Rattle.solver.specs.Pass.{countedDown, runs}
 use Rattle.solver.specs.Run.{problemOf, Full}

@@ -5,21 +5,12 @@ use mathlib.Core.List.{List}
 use lib.Dec.{eqb, ltb}
 use lib.Ieee.{Float, nan, inf, binary64, ofBits, neg, add, sub, mul, div}
 use lib.ListN.{getD}
-use Rattle.alpha.specs.Weight.{atUpper, atLower}
+use Rattle.alpha.specs.Weight.{one, minusOne, two, atUpper, atLower}
 use Rattle.alpha.specs.declared.Alpha.{Alpha}
 use Rattle.floats.specs.Helpers.{maxOf, minOf, wholeAsFloat}
 use Rattle.state.specs.Fields.{alphaIn}
 use Rattle.rho.specs.declared.Share.{Share}
 use Rattle.rho.specs.declared.Level.{Level}
-
-abbrev pub one : Float
-one = ofBits binary64 0x3ff0_0000_0000_0000
-
-abbrev pub minusOne : Float
-minusOne = neg one
-
-abbrev pub two : Float
-two = ofBits binary64 0x4000_0000_0000_0000
 
 -- before the first position
 abbrev pub nothing : Share

@@ -5,7 +5,8 @@ use mathlib.Core.List.{List}
 use lib.Dec.{eqb, ltb}
 use lib.Ieee.{Float, nan, binary64, ofBits, add, mul, div}
 use lib.ListN.{getD}
-use Rattle.rho.specs.Rho.{rhoC, rhoNu, two}
+use Rattle.alpha.specs.Weight.{two}
+use Rattle.rho.specs.Rho.{rhoC, rhoNu}
 use Rattle.rho.specs.declared.Level.{Level}
 use Rattle.start.specs.Start.{started}
 use Rattle.state.specs.Lists.{State}
