@@ -1,4 +1,5 @@
 //! Trains on captions and says how the held-out ones are sorted. HELP has the commands.
+mod picture;
 mod table;
 
 use altuliscia::{Options, Refusal};
@@ -7,6 +8,7 @@ use std::process::ExitCode;
 
 const HELP: &str = "captions pair FILE          trains the captions of one file and says how many held-out ones are sorted rightly
 captions table FOLDER       the same for every file of a folder, as the tables of docs/CAPTIONS.md
+captions picture FILE       one training (C 10, eps 1e-7, shrinking on) as an SVG picture: the weights of both lists
 captions libsvm FILE NAME   writes them as NAME.train and NAME.held, in LIBSVM's format for a precomputed kernel
 
 captions/README.md says what the files are.";
@@ -17,6 +19,7 @@ fn main() -> ExitCode {
     let told = match words[..] {
         ["pair", path] => read(path).map(|figures| pair(&figures)),
         ["table", folder] => table::table(folder),
+        ["picture", path] => read(path).and_then(|figures| picture::picture(&figures)),
         ["libsvm", path, name] => read(path).and_then(|figures| libsvm(&figures, name)),
         _ => {
             eprintln!("{}", HELP);
