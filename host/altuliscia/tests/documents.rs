@@ -52,3 +52,23 @@ fn the_readme_shows_the_sources() {
     let shown: Vec<&str> = indented.iter().map(|l| l.trim_end()).collect();
     assert!(shown.len() > 5 && readme.contains(&shown.join("\n")));
 }
+
+#[test]
+fn the_comparison_has_the_counts_of_the_run() {
+    let run = include_str!("../../../captions/cs-sk.expected");
+    let counts = |start: &str| -> Vec<&str> {
+        let line = run.lines().find_map(|l| l.strip_prefix(start)).unwrap();
+        let words = line.split_whitespace().skip(1);
+        words.step_by(3).collect()
+    };
+    let (off, on) = (counts("1e-7  10  off"), counts("1e-7  10  on"));
+    assert_eq!((off.len(), on.len()), (2, 2));
+    let page = include_str!("../../../docs/COMPARED.md");
+    for (name, k) in [
+        ("Altuliscia, each caption's own weight", 0),
+        ("linfa-svm, the list that it answers", 1),
+    ] {
+        let row = format!("\n| {} | {} | {} |\n", name, off[k], on[k]);
+        assert!(page.contains(&row), "{}", row);
+    }
+}
