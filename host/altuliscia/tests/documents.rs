@@ -72,3 +72,23 @@ fn the_comparison_has_the_counts_of_the_run() {
         assert!(page.contains(&row), "{}", row);
     }
 }
+
+/// Every place that the README's table names, and every page that it points to.
+#[test]
+fn what_the_readme_points_to_is_there() {
+    let readme = include_str!("../../../README.md");
+    let root = concat!(env!("CARGO_MANIFEST_DIR"), "/../../");
+    let rows = readme.lines().filter_map(|l| l.strip_prefix("| "));
+    let places = rows.flat_map(|l| l.split(" |").next().unwrap().split(", "));
+    let words = readme.split(|c: char| c.is_whitespace() || "()`,:;".contains(c));
+    let pages = words
+        .map(|w| w.trim_end_matches('.'))
+        .filter(|w| w.starts_with("docs/") || w.ends_with("README.md"));
+    let mut count = 0;
+    for name in places.chain(pages).filter(|name| !name.is_empty()) {
+        let name = name.replace("NAME", "solver");
+        assert!(std::path::Path::new(root).join(&name).exists(), "{}", name);
+        count += 1;
+    }
+    assert!(count > 30, "{}", count);
+}
