@@ -38,7 +38,8 @@ int main(void) {
     double crate_reading[N], home[N];
     uint8_t answer[ALTULISCIA_ANSWER_BYTES];
 
-    uint64_t refusal = altuliscia_c(N, bytes(matrix), sizeof matrix, labels, sizeof labels, bits(1.0), bits(1.0), bits(0.001), 1, 2,
+    uint64_t refusal = altuliscia_c(N, bytes(matrix), sizeof matrix, labels, sizeof labels,
+                                    bits(1.0) /* cpos */, bits(1.0) /* cneg */, bits(0.001) /* eps */, 0 /* shrinking */, 1000 /* budget */,
                                     (uint8_t *)crate_reading, sizeof crate_reading, (uint8_t *)home, sizeof home, answer, sizeof answer);
     if (refusal != ALTULISCIA_ACCEPTED) {
         printf("refused with %" PRIu64 " at index %" PRIu64 "\n", refusal, number_at(answer, ALTULISCIA_AT_INDEX));
@@ -54,7 +55,7 @@ int main(void) {
         printf("sample %zu    %g\n", k, home[k]);
 
     /* A refusal: no sample at all. */
-    refusal = altuliscia_c(0, NULL, 0, NULL, 0, bits(1.0), bits(1.0), bits(0.001), 1, 2, NULL, 0, NULL, 0, answer, sizeof answer);
+    refusal = altuliscia_c(0, NULL, 0, NULL, 0, bits(1.0), bits(1.0), bits(0.001), 0, 1000, NULL, 0, NULL, 0, answer, sizeof answer);
     printf("no sample   refused with %" PRIu64 "\n", refusal);
     return refusal == ALTULISCIA_BAD_SAMPLES ? 0 : 1;
 }

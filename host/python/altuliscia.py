@@ -22,10 +22,11 @@ target/staticlib. Nothing but Python's standard library is used.
 column*n + row; scale the kernel down or mend that entry.
 
 A kernel matrix is a list of n columns of n numbers each, or an object that holds its bytes: column by column, eight bytes for each
-double (array.array("d"), bytes, a contiguous float64 array of numpy). It need not be symmetric. Labels are 1 (positive) and
-0 (negative).
+double (array.array("d"), bytes, a float64 array of numpy, whose rows are taken as columns). It need not be symmetric. Labels are
+1 (positive) and 0 (negative). What is refused is told by a Refusal, which is a ValueError; what is no number at all, by a TypeError.
 """
 import ctypes
+import operator
 import os
 import struct
 from array import array
@@ -100,6 +101,8 @@ class Fit:
         times value, less rho. From 0 on it is the positive class."""
         decisions = []
         for row in rows:
+            if not hasattr(row, "__len__"):
+                raise TypeError("a list of rows is needed, each with the kernel values of one caption")
             if len(row) != len(self.home):
                 raise ValueError(f"a row has {len(row)} kernel values for {len(self.home)} training samples")
             total = 0.0
@@ -118,33 +121,37 @@ def fit_c(matrix, labels, cpos=1.0, cneg=1.0, *, eps=1e-7, shrinking=False, budg
     """
     marks = _labels(labels)
     given = (_bits(cpos), _bits(cneg))
-    return _called("altuliscia_c", len(marks), (_doubles(matrix), marks), given, eps, shrinking, budget)
+    return _called("altuliscia_c", len(marks), (_matrix(matrix, len(marks)), marks), given, eps, shrinking, budget)
 
 
 def fit_nu(matrix, labels, nu=0.5, *, eps=1e-7, shrinking=False, budget=MOST_PASSES):
     """Trains two classes with nu, above 0 and not above 1. For the rest see fit_c."""
     marks = _labels(labels)
-    return _called("altuliscia_nu", len(marks), (_doubles(matrix), marks), (_bits(nu),), eps, shrinking, budget)
+    return _called("altuliscia_nu", len(marks), (_matrix(matrix, len(marks)), marks), (_bits(nu),), eps, shrinking, budget)
 
 
 def fit_one_class(matrix, nu=0.5, *, n=None, eps=1e-7, shrinking=False, budget=MOST_PASSES):
-    """Trains one class with nu, above 0 and not above 1. A matrix that is handed over as bytes needs n beside it. For the rest see
-    fit_c; `n_iter_` is a list here, too."""
-    if n is None:
-        n = len(matrix)
-    return _called("altuliscia_one_class", n, (_doubles(matrix),), (_bits(nu),), eps, shrinking, budget)
+    """Trains one class with nu, above 0 and not above 1. A matrix that isn't in columns (bytes, array.array) needs n beside it. For the
+    rest see fit_c; `n_iter_` is a list here, too."""
+    n = _columns(matrix) if n is None else operator.index(n)
+    if not 0 <= n < 1 << 64:
+        raise Refusal(1, 0)
+    return _called("altuliscia_one_class", n, (_matrix(matrix, n),), (_bits(nu),), eps, shrinking, budget)
 
 
 def fit_general(matrix, labels, ceilings, alphas, linear, *, nu_rule=False, eps=1e-7, shrinking=False, budget=MOST_PASSES):
     """Trains with each sample's ceiling, start weight and linear term given. The weights are neither signed by label nor divided."""
     marks = _labels(labels)
-    lent = (_doubles(matrix), marks, _doubles(ceilings), _doubles(alphas), _doubles(linear))
+    lent = (_matrix(matrix, len(marks)), marks, _doubles(ceilings), _doubles(alphas), _doubles(linear))
     return _called("altuliscia_general", len(marks), lent, (ctypes.c_uint8(bool(nu_rule)),), eps, shrinking, budget)
 
 
 def _bits(number):
     """A double as the number with the same eight bytes."""
-    return ctypes.c_uint64(struct.unpack("<Q", struct.pack("<d", number))[0])
+    try:
+        return ctypes.c_uint64(struct.unpack("<Q", struct.pack("<d", number))[0])
+    except struct.error:
+        raise TypeError(f"a double is needed, not {number!r:.40}") from None
 
 
 def _labels(labels):
@@ -155,23 +162,50 @@ def _labels(labels):
     return bytes(int(mark) for mark in marks)
 
 
-def _doubles(numbers):
-    """The bytes of a list of doubles, or of a list of such lists."""
+def _view(numbers):
+    """What holds bytes, as a view of them; None where it is something else."""
     try:
-        view = memoryview(numbers)
+        return memoryview(numbers)
     except TypeError:
-        flat = array("d")
-        for entry in numbers:
-            flat.extend(entry if hasattr(entry, "__len__") else (entry,))
-        return flat.tobytes()
+        return None
+
+
+def _doubles(numbers):
+    """The bytes of a list of doubles."""
+    view = _view(numbers)
+    if view is None:
+        return array("d", numbers).tobytes()
     if view.format not in ("d", "<d", "B", "b", "c"):
         raise TypeError(f"doubles or bytes are needed, not what has the format {view.format!r}")
     return view.tobytes()
 
 
+def _columns(matrix):
+    """How many columns a matrix has."""
+    view = _view(matrix)
+    if view is not None and view.ndim != 2:
+        raise ValueError("a matrix that isn't in columns needs n beside it")
+    return len(matrix)
+
+
+def _matrix(matrix, n):
+    """The bytes of a matrix. One in columns that aren't n times n is lent as no bytes at all, so that it is refused for its length
+    even where it has n * n numbers."""
+    view = _view(matrix)
+    if view is not None:
+        return _doubles(matrix) if view.ndim == 1 or view.shape == (n, n) else b""
+    columns = list(matrix)
+    if not any(hasattr(column, "__len__") for column in columns):
+        return _doubles(columns)
+    if len(columns) != n or not all(hasattr(column, "__len__") and len(column) == n for column in columns):
+        return b""
+    return b"".join(_doubles(list(column)) for column in columns)
+
+
 def _called(name, n, lent, given, eps, shrinking, budget):
-    if not 0 <= budget < 1 << 64:
-        raise Refusal(10, 0)
+    # What doesn't fit 64 bits is lent as 0, which is refused as it would be.
+    budget = operator.index(budget)
+    budget = budget if 0 <= budget < 1 << 64 else 0
     slices = []
     for data in lent:
         slices += [ctypes.c_char_p(data), ctypes.c_size_t(len(data))]

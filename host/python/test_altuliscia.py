@@ -87,6 +87,46 @@ class Refusals(unittest.TestCase):
         self.refused(10, 0, fit_c, IDENTITY, [1, 0], budget=0)
         self.refused(10, 0, fit_c, IDENTITY, [1, 0], budget=10_000_001)
         self.refused(10, 0, fit_c, IDENTITY, [1, 0], budget=-1)
+        self.refused(10, 0, fit_c, IDENTITY, [1, 0], budget=1 << 70)
+        self.refused(8, 0, fit_c, IDENTITY, [1, 0], eps=-1.0, budget=-1)
+
+    def test_columns_of_another_length(self):
+        # As many numbers as there should be, but not in n columns of n.
+        self.refused(2, 0, fit_c, [[1, 0, 0], [1]], [1, 0])
+        self.refused(2, 0, fit_c, [[1, 0, 0, 1]], [1, 0])
+        self.refused(2, 0, fit_nu, [1, [0, 0], 1], [1, 0])
+        self.refused(2, 0, fit_one_class, [[1, 0, 0], [1]])
+        self.refused(2, 0, fit_general, [[1, 0, 0], [1]], [1, 0], [1, 1], [0, 0], [0, 0])
+        grid = memoryview(array("d", [1, 0, 0, 1])).cast("B")
+        self.refused(2, 0, fit_c, grid.cast("d", (1, 4)), [1, 0])
+        self.assertEqual(fit_c(grid.cast("d", (2, 2)), [1, 0]).home, [1.0, -1.0])
+        self.refused(1, 0, fit_c, [[1, 0]], [])
+
+    def test_numbers_of_samples(self):
+        for n in (-1, 0, 513, 1 << 64, (1 << 64) + 2):
+            self.refused(1, 0, fit_one_class, IDENTITY, n=n)
+        self.refused(2, 0, fit_one_class, IDENTITY, n=3)
+        for flat in (array("d", [1, 0, 0, 1]), bytes(32)):
+            with self.assertRaises(ValueError) as caught:
+                fit_one_class(flat)
+            self.assertEqual(str(caught.exception), "a matrix that isn't in columns needs n beside it")
+
+    def test_no_numbers(self):
+        for given, options, told in (
+            ((IDENTITY, [1, 0], "x"), {}, "a double is needed, not 'x'"),
+            ((IDENTITY, [1, 0]), {"eps": None}, "a double is needed, not None"),
+            ((IDENTITY, [1, 0]), {"budget": 1.5}, "'float' object cannot be interpreted as an integer"),
+            ((IDENTITY, [1, 0]), {"budget": "9"}, "'str' object cannot be interpreted as an integer"),
+            (([["1", "0"], ["0", "1"]], [1, 0]), {}, "must be real number, not str"),
+        ):
+            with self.assertRaises(TypeError) as caught:
+                fit_c(*given, **options)
+            self.assertEqual(str(caught.exception), told)
+        with self.assertRaises(TypeError):
+            fit_one_class(IDENTITY, n=2.0)
+        with self.assertRaises(TypeError) as caught:
+            fit_c(IDENTITY, [1, 0]).decision_function([1.0, 0.0])
+        self.assertIn("a list of rows is needed", str(caught.exception))
 
     def test_words_are_the_headers(self):
         part = read("include/altuliscia.h").split("ALTULISCIA_ACCEPTED = 0,")[1].split("};")[0]
@@ -129,6 +169,7 @@ class Lists(unittest.TestCase):
         fits = [fit_c(given, [1, 0]) for given in (columns, flat, flat.tobytes(), memoryview(flat))]
         for fit in fits[1:]:
             self.assertEqual((fit.home, fit.rho, fit.obj), (fits[0].home, fits[0].rho, fits[0].obj))
+        self.assertEqual(fit_c([flat[:2], flat[2:]], [1, 0]).home, fits[0].home)
         one = fit_one_class(flat.tobytes(), 0.5, n=2)
         self.assertEqual(one.home, fit_one_class(columns, 0.5).home)
 

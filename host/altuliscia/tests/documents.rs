@@ -52,3 +52,43 @@ fn the_readme_shows_the_sources() {
     let shown: Vec<&str> = indented.iter().map(|l| l.trim_end()).collect();
     assert!(shown.len() > 5 && readme.contains(&shown.join("\n")));
 }
+
+#[test]
+fn the_comparison_has_the_counts_of_the_run() {
+    let run = include_str!("../../../captions/cs-sk.expected");
+    let counts = |start: &str| -> Vec<&str> {
+        let line = run.lines().find_map(|l| l.strip_prefix(start)).unwrap();
+        let words = line.split_whitespace().skip(1);
+        words.step_by(3).collect()
+    };
+    let (off, on) = (counts("1e-7  10  off"), counts("1e-7  10  on"));
+    assert_eq!((off.len(), on.len()), (2, 2));
+    let page = include_str!("../../../docs/COMPARED.md");
+    for (name, k) in [
+        ("Altuliscia, each caption's own weight", 0),
+        ("linfa-svm, the list that it answers", 1),
+    ] {
+        let row = format!("\n| {} | {} | {} |\n", name, off[k], on[k]);
+        assert!(page.contains(&row), "{}", row);
+    }
+}
+
+/// Every place that the README's table names, and every page that it points to.
+#[test]
+fn what_the_readme_points_to_is_there() {
+    let readme = include_str!("../../../README.md");
+    let root = concat!(env!("CARGO_MANIFEST_DIR"), "/../../");
+    let rows = readme.lines().filter_map(|l| l.strip_prefix("| "));
+    let places = rows.flat_map(|l| l.split(" |").next().unwrap().split(", "));
+    let words = readme.split(|c: char| c.is_whitespace() || "()`,:;".contains(c));
+    let pages = words
+        .map(|w| w.trim_end_matches('.'))
+        .filter(|w| w.starts_with("docs/") || w.ends_with("README.md"));
+    let mut count = 0;
+    for name in places.chain(pages).filter(|name| *name != "|") {
+        let name = name.replace("NAME", "solver");
+        assert!(std::path::Path::new(root).join(&name).exists(), "{}", name);
+        count += 1;
+    }
+    assert!(count > 30, "{}", count);
+}

@@ -5,7 +5,7 @@ mod figures;
 mod sorted;
 
 pub use figures::{Caption, Figures};
-pub use sorted::{decision, measured, Sorted};
+pub use sorted::{decision, fitted, measured, parted, sorted, Sorted};
 
 /// The name of a language.
 pub fn language(code: &str) -> &str {

@@ -23,22 +23,37 @@ pub fn decision(weights: &[f64], values: &[f64], rho: f64) -> f64 {
     weights.iter().zip(values).fold(0.0, sum) - rho
 }
 
-/// Trains the first n captions with one ceiling for both languages, then sorts every held-out caption.
-pub fn measured(f: &Figures, n: usize, c: f64, options: &Options) -> Result<Sorted, Refusal> {
+/// Trains the first n captions with one ceiling for both languages.
+pub fn fitted(f: &Figures, n: usize, c: f64, options: &Options) -> Result<Answer, Refusal> {
     let problem = Problem {
         matrix: &f.matrix(n),
         labels: &f.labels(n),
     };
-    let answer = fit_c(&problem, c, c, options)?;
-    let same = |a: &f64, b: &f64| a == b || a.is_nan() && b.is_nan();
-    let pairs = answer.home.iter().zip(&answer.crate_reading);
-    Ok(Sorted {
-        home: right(f, &answer, &answer.home),
-        crate_reading: right(f, &answer, &answer.crate_reading),
-        differ: pairs.filter(|(a, b)| !same(a, b)).count(),
+    fit_c(&problem, c, c, options)
+}
+
+/// The training captions whose two weights differ, in their order.
+pub fn parted(answer: &Answer) -> Vec<usize> {
+    let same = |a: f64, b: f64| a == b || a.is_nan() && b.is_nan();
+    (0..answer.home.len())
+        .filter(|k| !same(answer.home[*k], answer.crate_reading[*k]))
+        .collect()
+}
+
+/// Sorts every held-out caption by each list of an answer.
+pub fn sorted(f: &Figures, answer: &Answer) -> Sorted {
+    Sorted {
+        home: right(f, answer, &answer.home),
+        crate_reading: right(f, answer, &answer.crate_reading),
+        differ: parted(answer).len(),
         steps: answer.iterations,
         rho: answer.rho,
-    })
+    }
+}
+
+/// Trains, then sorts.
+pub fn measured(f: &Figures, n: usize, c: f64, options: &Options) -> Result<Sorted, Refusal> {
+    fitted(f, n, c, options).map(|answer| sorted(f, &answer))
 }
 
 fn right(f: &Figures, answer: &Answer, weights: &[f64]) -> usize {

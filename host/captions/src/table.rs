@@ -39,6 +39,9 @@ pub fn table(folder: &str) -> Result<String, String> {
         .filter_map(|entry| entry.ok()?.path().to_str().map(str::to_string))
         .filter(|path| path.ends_with(".txt"))
         .collect();
+    if paths.is_empty() {
+        return Err(format!("{}: no figures (*.txt) in this folder", folder));
+    }
     paths.sort();
     let all: Vec<Figures> = paths.iter().map(|p| read(p)).collect::<Result<_, _>>()?;
     let mut summary = vec![

@@ -105,8 +105,12 @@ pub fn parse(words: &[String]) -> Result<Words, Trouble> {
             "-q" => settings.quiet = true,
             option if option.starts_with('-') => match rest.next() {
                 Some(value) => set(&mut settings, option, value)?,
-                None => return usage(format!("{}: its value is missing", option)),
+                None if has_value(option) => {
+                    return usage(format!("{}: its value is missing", option))
+                }
+                None => return usage(format!("there is no option '{}'", option)),
             },
+            "" => return usage("a file's name is empty".to_string()),
             file => files.push(file.to_string()),
         }
     }
@@ -129,6 +133,11 @@ pub fn parse(words: &[String]) -> Result<Words, Trouble> {
 fn number<T: FromStr>(option: &str, value: &str, what: &str) -> Result<T, Trouble> {
     let wrong = || Trouble::Usage(format!("{}: '{}' is not {}", option, value, what));
     value.parse().map_err(|_| wrong())
+}
+
+fn has_value(option: &str) -> bool {
+    let known = ["-s", "-t", "-c", "-n", "-e", "-h", "--budget"];
+    known.contains(&option) || option.starts_with("-w")
 }
 
 fn set(s: &mut Settings, option: &str, value: &str) -> Result<(), Trouble> {
@@ -240,11 +249,31 @@ mod tests {
             ),
             ("train a -w1 x", "-w1: 'x' is not a number"),
             ("train a -b 1", "there is no option '-b'"),
+            ("train a --verbose", "there is no option '--verbose'"),
+            ("train a -w1", "-w1: its value is missing"),
         ] {
             match parsed(line) {
                 Err(Trouble::Usage(text)) => assert_eq!(text, told),
                 _ => panic!("{}", line),
             }
+        }
+        let words = ["train", ""].map(str::to_string);
+        let told = parse(&words).err().map(|trouble| trouble.to_string());
+        assert_eq!(
+            told.as_deref(),
+            Some("a file's name is empty (see altuliscia --help)")
+        );
+    }
+
+    /// What has_value knows is what is set.
+    #[test]
+    fn options_that_have_a_value_are_those_that_are_set() {
+        for option in [
+            "-s", "-t", "-c", "-n", "-e", "-h", "--budget", "-w1", "-x", "-v", "-b", "-m", "--help",
+        ] {
+            let mut settings = Settings::USUAL;
+            let unknown = matches!(set(&mut settings, option, "x"), Err(Trouble::Usage(text)) if text.starts_with("there is no"));
+            assert_eq!(has_value(option), !unknown, "{}", option);
         }
     }
 }

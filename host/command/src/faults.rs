@@ -26,7 +26,7 @@ pub fn faults(s: &Samples, settings: &Settings, ceilings: (f64, f64)) -> Vec<Fau
     // Files of bytes only: a text's lists are as long as they should be.
     let labels = s.labels.len() == s.n || !two && s.labels.is_empty();
     if s.n.checked_mul(s.n) != Some(s.matrix.len()) || !labels {
-        add(Refusal::Length, s.path.clone());
+        add(Refusal::Length, lengths(s));
     } else {
         for k in (0..s.matrix.len()).filter(|k| !(s.matrix[*k].abs() <= limit())) {
             add(
@@ -59,6 +59,20 @@ pub fn faults(s: &Samples, settings: &Settings, ceilings: (f64, f64)) -> Vec<Fau
         add(Refusal::Budget, format!("--budget {}", settings.budget));
     }
     all
+}
+
+/// The file of bytes, and what should stand in it where n may be.
+fn lengths(s: &Samples) -> String {
+    match s.n <= MOST_SAMPLES {
+        true => format!(
+            "{}: n is {}, so {} bytes of matrix and {} of labels should follow it",
+            s.path,
+            s.n,
+            8 * s.n * s.n,
+            s.n
+        ),
+        false => s.path.clone(),
+    }
 }
 
 /// The faults for a reader, a line each, then how many there are.

@@ -73,7 +73,7 @@ ran out), and a note where the model is worse than it looks.
 
 MODEL is what LIBSVM's svm-predict reads for a precomputed kernel. Where it isn't named it is
 FILE's name with .model, in this folder. Its weights are each sample's own (the home reading). It
-is written whole or not at all.
+is written whole or not at all, and replaces neither FILE nor a file that is read-only.
 
 ",
     options!(),

@@ -27,6 +27,14 @@ pub fn run(words: &[String], out: &mut dyn Write, terminal: bool) -> Result<(), 
 }
 
 fn carried_out(call: &Call, out: &mut dyn Write, terminal: bool) -> Result<(), Trouble> {
+    let path = call.model_path();
+    if call.command == Command::Train && save::one_file(&call.file, &path) {
+        let told = format!(
+            "'{}' is the problem itself: the model would replace it",
+            path
+        );
+        return Err(Trouble::Usage(told));
+    }
     let samples = progress::shown(terminal, "reading", || {
         problem::read(&call.file, call.settings.fit)
     })?;
@@ -51,7 +59,6 @@ fn carried_out(call: &Call, out: &mut dyn Write, terminal: bool) -> Result<(), T
     if call.command == Command::Weights {
         return tell(out, &report::weights(&samples, settings, ceilings, &answer));
     }
-    let path = call.model_path();
     save::whole(&path, &model::text(&samples, settings, &answer))?;
     if settings.quiet {
         return Ok(());
@@ -85,5 +92,5 @@ fn trained(s: &Samples, settings: &Settings, (cpos, cneg): (f64, f64)) -> Result
 
 fn tell(out: &mut dyn Write, text: &str) -> Result<(), Trouble> {
     let told = out.write_all(text.as_bytes());
-    told.map_err(|e| Trouble::writing("standard output", &e))
+    told.map_err(|e| Trouble::telling(&e))
 }

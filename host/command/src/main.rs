@@ -1,16 +1,24 @@
 //! `altuliscia`: trains, lists and checks problem files. `altuliscia --help` says how.
+use command::Trouble;
+use std::ffi::OsString;
 use std::io::{self, BufWriter, Write};
 use std::process::ExitCode;
 
 fn main() -> ExitCode {
-    let words: Vec<String> = std::env::args_os()
+    let words: Result<Vec<String>, OsString> = std::env::args_os()
         .skip(1)
-        .map(|word| word.to_string_lossy().into_owned())
+        .map(OsString::into_string)
         .collect();
     let mut out = BufWriter::new(io::stdout());
-    let mut done = command::run(&words, &mut out, on_terminal());
+    let mut done = match words {
+        Ok(words) => command::run(&words, &mut out, on_terminal()),
+        Err(word) => {
+            let told = format!("{:?} isn't UTF-8: give the file another name", word);
+            Err(Trouble::Usage(told))
+        }
+    };
     if let Err(e) = out.flush() {
-        done = done.and(Err(command::Trouble::writing("standard output", &e)));
+        done = done.and(Err(Trouble::telling(&e)));
     }
     match done {
         Ok(()) => ExitCode::SUCCESS,

@@ -18,9 +18,14 @@ pub enum Trouble {
 }
 
 impl Trouble {
-    /// Something couldn't be written.
-    pub fn writing(what: &str, e: &std::io::Error) -> Trouble {
-        Trouble::Write(format!("{}: {}", what, e))
+    /// A file couldn't be written.
+    pub fn writing(path: &str, e: &std::io::Error) -> Trouble {
+        Trouble::Write(format!("nothing was written to {}: {}", path, e))
+    }
+
+    /// Standard output couldn't take all that was told.
+    pub fn telling(e: &std::io::Error) -> Trouble {
+        Trouble::Write(format!("not all was written to standard output: {}", e))
     }
 
     /// The exit status.
@@ -40,8 +45,7 @@ impl fmt::Display for Trouble {
     fn fmt(&self, f: &mut fmt::Formatter<'_>) -> fmt::Result {
         match self {
             Trouble::Usage(text) => write!(f, "{} (see altuliscia --help)", text),
-            Trouble::File(text) => write!(f, "{}", text),
-            Trouble::Write(text) => write!(f, "nothing was written to {}", text),
+            Trouble::File(text) | Trouble::Write(text) => write!(f, "{}", text),
             Trouble::Refused(place, refusal) => write!(f, "{}: {}", place, refusal),
             Trouble::Faults(_) => write!(f, "this problem would be refused"),
         }

@@ -258,6 +258,94 @@ fn where_nothing_can_be_written_nothing_is() {
     assert_eq!(fs::read_dir(&f).unwrap().count(), 1);
 }
 
+#[test]
+fn the_problem_is_never_replaced_by_its_model() {
+    let f = folder("itself");
+    let path = file(&f, "a", SMALL.as_bytes());
+    let mut names = vec![path.clone(), format!("{}/./a", f.to_str().unwrap())];
+    #[cfg(unix)]
+    {
+        let link = f.join("link");
+        std::os::unix::fs::symlink(&path, &link).unwrap();
+        names.push(link.to_str().unwrap().to_string());
+    }
+    for model in names {
+        let trouble = told("train FILE MODEL", &path, &model).unwrap_err();
+        assert_eq!(trouble.status(), 2);
+        let text = format!("'{}' is the problem itself: the model would", model);
+        assert!(trouble.to_string().starts_with(&text), "{}", trouble);
+        assert_eq!(fs::read(&path).unwrap(), SMALL.as_bytes());
+    }
+}
+
+#[test]
+fn a_read_only_model_stays() {
+    let f = folder("read-only");
+    let (path, model) = (file(&f, "a", SMALL.as_bytes()), file(&f, "model", b"old"));
+    let mut allowed = fs::metadata(&model).unwrap().permissions();
+    allowed.set_readonly(true);
+    fs::set_permissions(&model, allowed).unwrap();
+    let trouble = told("train FILE MODEL", &path, &model).unwrap_err();
+    let text = format!("nothing was written to {}: what stands there", model);
+    assert_eq!(trouble.status(), 4);
+    assert!(trouble.to_string().starts_with(&text), "{}", trouble);
+    assert_eq!(fs::read(&model).unwrap(), b"old");
+    assert_eq!(fs::read_dir(&f).unwrap().count(), 2);
+}
+
+#[cfg(unix)]
+#[test]
+fn a_new_model_may_be_read_by_whom_the_old_one_was() {
+    use std::os::unix::fs::PermissionsExt;
+    let f = folder("allowed");
+    let (path, model) = (file(&f, "a", SMALL.as_bytes()), file(&f, "model", b"old"));
+    fs::set_permissions(&model, fs::Permissions::from_mode(0o600)).unwrap();
+    told("train FILE MODEL", &path, &model).unwrap();
+    assert_ne!(fs::read(&model).unwrap(), b"old");
+    let mode = fs::metadata(&model).unwrap().permissions().mode();
+    assert_eq!(mode & 0o777, 0o600);
+}
+
+#[test]
+fn a_wrong_length_is_told_with_what_should_be() {
+    let f = folder("lengths");
+    let path = file(&f, "a", &own(2, &[1.0, 0.0, 0.0], &[]));
+    let trouble = told("weights FILE", &path, "").unwrap_err();
+    let text = format!(
+        "{}: n is 2, so 32 bytes of matrix and 2 of labels should follow it: refusal 2: ",
+        path
+    );
+    assert!(trouble.to_string().starts_with(&text), "{}", trouble);
+    let path = file(&f, "a", &own(u64::MAX, &[1.0], &[]));
+    let trouble = told("check FILE", &path, "").unwrap_err();
+    assert_eq!(trouble.status(), 11);
+}
+
+/// An output that takes nothing.
+struct Full;
+
+impl std::io::Write for Full {
+    fn write(&mut self, _: &[u8]) -> std::io::Result<usize> {
+        Err(std::io::ErrorKind::BrokenPipe.into())
+    }
+
+    fn flush(&mut self) -> std::io::Result<()> {
+        Ok(())
+    }
+}
+
+#[test]
+fn an_output_that_breaks_is_told() {
+    let f = folder("broken");
+    let path = file(&f, "a", SMALL.as_bytes());
+    for words in [["weights", &path], ["check", &path]] {
+        let trouble = run(&words.map(str::to_string), &mut Full, false).unwrap_err();
+        assert_eq!(trouble.status(), 4);
+        let text = "not all was written to standard output: ";
+        assert!(trouble.to_string().starts_with(text), "{}", trouble);
+    }
+}
+
 /// The old file isn't written into: another name of it still has the old text.
 #[test]
 fn a_model_takes_the_place_of_the_old_one() {
@@ -331,6 +419,16 @@ fn the_program_has_these_statuses() {
         String::from_utf8(output.stderr).unwrap(),
         "altuliscia: this problem would be refused\n"
     );
+    #[cfg(unix)]
+    {
+        use std::os::unix::ffi::OsStrExt;
+        let mut command = Command::new(env!("CARGO_BIN_EXE_altuliscia"));
+        let word = std::ffi::OsStr::from_bytes(b"a\xff");
+        let output = command.arg("train").arg(word).output().unwrap();
+        assert_eq!(output.status.code(), Some(2));
+        let told = "altuliscia: \"a\\xFF\" isn't UTF-8: give the file another name (see altuliscia --help)\n";
+        assert_eq!(String::from_utf8(output.stderr).unwrap(), told);
+    }
     let output = program(&[]).unwrap();
     assert_eq!((output.status.code(), output.stdout.len()), (Some(2), 0));
     let told = "altuliscia: a command is missing (see altuliscia --help)\n";

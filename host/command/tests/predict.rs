@@ -175,3 +175,38 @@ fn labels_keep_their_meaning() {
         sorted
     );
 }
+
+/// LIBSVM's own training: with shrinking off and on it writes one file, and sorts as docs/COMPARED.md says.
+#[test]
+fn libsvm_itself_sorts_as_the_page_says() {
+    if !there() {
+        return;
+    }
+    let figures = Figures::read(PAIRS[0].1).unwrap();
+    let folder = folder("libsvm");
+    let path = |name: &str| folder.join(name).to_str().unwrap().to_string();
+    fs::write(path("train"), figures.libsvm_train(64)).unwrap();
+    fs::write(path("held"), figures.libsvm_held(64)).unwrap();
+    let started = |program: &str, options: &str, files: &[&str]| {
+        let mut command = Command::new(program);
+        command.args(options.split_whitespace());
+        let output = command.args(files.iter().map(|f| path(f))).output();
+        assert!(output.unwrap().status.success());
+    };
+    let models = ["0", "1"].map(|shrinking| {
+        let options = format!("-q -t 4 -c 10 -e 1e-7 -h {}", shrinking);
+        started("svm-train", &options, &["train", "model"]);
+        fs::read_to_string(path("model")).unwrap()
+    });
+    assert_eq!(models[0], models[1]);
+    started("svm-predict", "", &["held", "model", "labels"]);
+    let labels = fs::read_to_string(path("labels")).unwrap();
+    let right = labels
+        .lines()
+        .zip(&figures.held)
+        .filter(|(l, c)| (*l == "1") == c.first)
+        .count();
+    let page = include_str!("../../../docs/COMPARED.md");
+    let row = format!("\n| LIBSVM | {} | {} |\n", right, right);
+    assert!(page.contains(&row), "{}", row);
+}

@@ -3,6 +3,7 @@ mod given;
 
 use altuliscia::{Answer, ExitReason};
 use given::Given;
+use std::io::Write;
 use std::process::ExitCode;
 
 const HELP: &str = "train FILE
@@ -40,8 +41,14 @@ fn main() -> ExitCode {
     });
     match answer {
         Ok((given, answer)) => {
-            print!("{}", told(&given, &answer));
-            ExitCode::SUCCESS
+            let text = told(&given, &answer);
+            match std::io::stdout().write_all(text.as_bytes()) {
+                Ok(()) => ExitCode::SUCCESS,
+                Err(e) => {
+                    eprintln!("not all was written to standard output: {}", e);
+                    ExitCode::FAILURE
+                }
+            }
         }
         Err(message) => {
             eprintln!("{}: {}", path, message);
