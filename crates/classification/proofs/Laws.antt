@@ -16,10 +16,10 @@ use Rattle.fits.proofs.Loaded.{ready-loaded, paired-loaded}
 use Rattle.judge.specs.Judge.{first, entryGood, budgetGood, generalJudged, cJudged, nuJudged, oneClassJudged}
 use Rattle.judge.specs.declared.Judged.the-variants.{Fine}
 use Rattle.judge.proofs.Accepted.{matrix-fine, general-fine, c-fine, nu-fine, one-class-fine}
-use Rattle.judge.proofs.First.{both}
 use Rattle.judge.proofs.Lengths.{long-enough}
 use Rattle.kernel.specs.Matrix.{Matrix}
 use Rattle.kernel.specs.declared.Kind.{Kind}
+use Rattle.rounding.proofs.Order.{both}
 use Rattle.solver.specs.Run.{problemOf}
 use Rattle.solver.specs.declared.Given.{Given}
 use Rattle.state.specs.Lists.{State, state, Ready}

@@ -10,9 +10,9 @@ use lib.Dec.{eqb, leb}
 use lib.Ieee.{Float}
 use Rattle.answer.specs.Lent.{lent}
 use Rattle.judge.specs.Sizes.{Room}
-use Rattle.judge.proofs.First.{both}
 use Rattle.judge.proofs.Lengths.{inputs-of, room-of, long-enough}
 use Rattle.hosted.specs.Hosted.{decodedTo, floatsOf, eights, hostSizes, freshPlaces, freshFloats, freshNumbers, freshBytes, room}
+use Rattle.rounding.proofs.Order.{both}
 
 pub record Serves (n m cr h an : ℕ) : Type 0 where
   pub room : Room n m 512 512 3584 1024 512

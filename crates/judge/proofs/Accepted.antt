@@ -11,11 +11,11 @@ use lib.Ieee.{Float, nan, binary64, nanBits, neg, lt, le}
 use lib.Ieee.Bits.{nanBits-is}
 use Rattle.alpha.specs.Weight.{zero, limit, one}
 use Rattle.kernel.specs.Matrix.{Matrix}
-use Rattle.rounding.proofs.Order.{holds, le-real}
+use Rattle.rounding.proofs.Order.{holds, le-real, both}
 use Rattle.wire.specs.Wire.{digits, floatAt}
 use Rattle.judge.specs.declared.Judged.the-variants.{Fine}
 use Rattle.judge.specs.Judge.{first, need, after, isCeiling, entryGood, labelGood, ceilingGood, costGood, alphaGood, linearGood, epsGood, nuGood, budgetGood, samplesJudged, generalJudged, cJudged, nuJudged, oneClassJudged}
-use Rattle.judge.proofs.First.{first-fine, need-fine, after-fine, both}
+use Rattle.judge.proofs.First.{first-fine, need-fine, after-fine}
 
 -- ---- what a good place says
 

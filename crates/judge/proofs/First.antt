@@ -1,6 +1,6 @@
 -- What `first` and `after` say, and what a loop over `first` leans on. Assumes nothing.
 use Prim.Native.Nat.{ℕ, zero, suc, _+_, _-_, _≤_, _<_}
-use mathlib.Core.Bool.{Bool, true, false, _&&_, cond}
+use mathlib.Core.Bool.{Bool, true, false, cond}
 use mathlib.Core.Logic.{_⊎_, inl, inr}
 use mathlib.Core.Path.{_≡_, refl, sym, ap, subst}
 use native.Mathlib.Nat.{eq-or-lt-of-le}
@@ -120,7 +120,3 @@ stop k good n i h g = let e : n - i ≡ suc (n - suc i) = omega arith in rw (e, 
 pub done : (k : ℕ) (good : ℕ → Bool) (n i : ℕ) → n ≤ i → first k good (n - i) i ≡ Fine
 unfolding first
 done k good n i h = let e : n - i ≡ 0 = omega arith in rw e
-
-pub both : (a b : Bool) → (a && b) ≡ true → (a ≡ true) × (b ≡ true)
-both true b h = (refl, h)
-both false b h = absurd (subst T (sym h) tt)

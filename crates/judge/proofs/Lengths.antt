@@ -7,7 +7,7 @@ use native.Mathlib.Omega.{arith}
 use borrow.Author.Tests.{ltb-true, leb-true, eqb-true}
 use lib.Dec.{ltb, leb, eqb}
 use Rattle.judge.specs.Sizes.{countGood, roomGood, sizes, Room}
-use Rattle.judge.proofs.First.{both}
+use Rattle.rounding.proofs.Order.{both}
 
 pub square : {n : ℕ} → n ≤ 512 → n * n ≤ 262144
 square h = mul-le-mul h h

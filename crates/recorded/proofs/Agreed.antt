@@ -5,19 +5,16 @@ use mathlib.Core.Path.{_≡_, refl, sym, subst}
 use native.Mathlib.Omega.{arith}
 use borrow.Author.Tests.{eqb-true, eqb-false, eq-eqb}
 use lib.Dec.{T, eqb}
+use Rattle.rounding.proofs.Order.{both}
 use Rattle.recorded.specs.Agree.{agree}
-
-halves : (a b : Bool) → (a && b) ≡ true → (a ≡ true) × (b ≡ true)
-halves true b h = (refl, h)
-halves false b h = absurd (subst T (sym h) tt)
 
 pub everywhere : (x y : ℕ → ℕ) (m : ℕ) → agree x y m ≡ true → (k : ℕ) → k < m → x k ≡ y k
 unfolding agree
 everywhere x y zero h k l = let z : ⊥ = omega arith in absurd z
-everywhere x y (suc m) h k l = go (eqb k m) refl (everywhere x y m (halves (agree x y m) (eqb (x m) (y m)) h .0) k)
+everywhere x y (suc m) h k l = go (eqb k m) refl (everywhere x y m (both (agree x y m) (eqb (x m) (y m)) h .0) k)
   where
     go : (t : Bool) → eqb k m ≡ t → (k < m → x k ≡ y k) → x k ≡ y k
-    go true e f = let q : k ≡ m = eqb-true k m e in rw q (eqb-true (x m) (y m) (halves (agree x y m) (eqb (x m) (y m)) h .1))
+    go true e f = let q : k ≡ m = eqb-true k m e in rw q (eqb-true (x m) (y m) (both (agree x y m) (eqb (x m) (y m)) h .1))
     go false e f = let q : (k ≡ m → ⊥) = eqb-false k m e in f (omega (arith, q))
 
 pub throughout : (x y : ℕ → ℕ) (m : ℕ) → ((k : ℕ) → k < m → x k ≡ y k) → agree x y m ≡ true

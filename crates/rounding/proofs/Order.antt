@@ -1,7 +1,7 @@
 -- The order of all floats, whether or not a format holds them. A NaN compares with nothing. Assumes nothing.
 use mathlib.Core.Path.{_≡_, refl, ap}
 use mathlib.Core.Logic.{_⊎_, inl, inr, _↔_}
-use mathlib.Core.Bool.{Bool, true, false, not, cond, true≢false, false≢true}
+use mathlib.Core.Bool.{Bool, true, false, not, _&&_, cond, true≢false, false≢true}
 use Prim.Native.Nat.{ℕ, suc, _+_, _*_, _/_, _^_, _≤_, _<_}
 use native.Mathlib.Nat.{le-of-lt, lt-of-lt-of-le, div-le-self}
 use native.Mathlib.Omega.{arith}
@@ -22,6 +22,10 @@ holds false = (λ t. absurd t, λ e. false≢true e)
 pub fails : (b : Bool) → T (not b) ↔ (b ≡ false)
 fails true = (λ t. absurd t, λ e. true≢false e)
 fails false = (λ t. refl, λ e. tt)
+
+pub both : (a b : Bool) → (a && b) ≡ true → (a ≡ true) × (b ≡ true)
+both true b h = (refl, h)
+both false b h = absurd (false≢true h)
 
 -- ---- what is compared is no NaN
 

@@ -1,9 +1,9 @@
 use borrow.Author.Tests.{leb-true}
 use lib.Dec.{ltb, leb}
 use Rattle.judge.specs.Sizes.{sizes}
-use Rattle.judge.proofs.First.{both}
 use Rattle.judge.proofs.sized.Statement.{statement}
 use Rattle.judge.proofs.sized.Tie as tie
+use Rattle.rounding.proofs.Order.{both}
 
 roomy-requires : tie.Need-roomy-requires
 roomy-requires c κs = let n = c .before .args .n in leb-true n 512 (both (ltb 0 n) (leb n 512) (c .if1 .taken) .1)
