@@ -1,16 +1,14 @@
-// A run over loaded lists, its answer and both readings, and the scratch cleared.
+// The answer of a run and both readings, and the scratch cleared.
 ghost use mathlib.Core.Path.{_≡_};
 ghost use mathlib.Core.Bool.{Bool, true, false};
 ghost use Prim.Native.Nat.{ℕ, _+_, _*_, _≤_, _<_};
 ghost use lib.ListN.{length};
 ghost use Rattle.readings.specs.Order.{Within, crateReading, homeReading, weightIn};
-ghost use Rattle.solver.specs.End.{trained};
-ghost use Rattle.solver.specs.Run.{problemOf, Full, full};
-ghost use Rattle.state.specs.Lists.{State, state, Ready};
-ghost use Rattle.travel.specs.Travel.{Paired};
+ghost use Rattle.solver.specs.Run.{Full, full};
+ghost use Rattle.state.specs.Lists.{State, state};
 ghost use Rattle.answer.specs.Answer.{signedBy, coefficientOf, finishedTo, countedBy, supportOf, rhoOf, objOf, ratioOf, reasonOf};
-ghost use Rattle.answer.specs.Lent.{lent, Whole, whole, cleared};
-ghost use Rattle.answer.specs.Solved.{stuck, Read, read, answerOf, crateOf, homeOf, levelAt, settledOf, solved};
+ghost use Rattle.answer.specs.Lent.{cleared};
+ghost use Rattle.answer.specs.Solved.{stuck, Read, read, answerOf, crateOf, homeOf, levelAt, settledOf};
 use rho::Level;
 use solver::Given;
 use solver::Run;
@@ -167,7 +165,7 @@ fn read_both(
 }
 
 // The answer of a run that left r, and both result lists.
-fn settle(
+pub fn settle(
     cr: &mut [f64],
     h: &mut [f64],
     f: &[f64],
@@ -203,36 +201,11 @@ fn settle(
 }
 
 // The used scratch is all +0.
-fn clear(f: &mut [f64], u: &mut [u64], y: &mut [u8], n: usize)
+pub fn clear(f: &mut [f64], u: &mut [u64], y: &mut [u8], n: usize)
     requires { ⌜ (n ≤ 512) × (7 * n ≤ length (now f)) × (2 * n ≤ length (now u)) × (n ≤ length (now y)) ⌝ }
     ensures { λ _. ⌜ _≡_ {A = State} (state (now (f .exit)) (now (u .exit)) (now (y .exit))) (cleared n (state (now (f .entry)) (now (u .entry)) (now (y .entry)))) ⌝ }
 {
     lists::fill_floats(f, 0.0, 7 * n);
     lists::fill_numbers(u, 0, 2 * n);
     lists::fill_bytes(y, 0, n);
-}
-
-// A run over loaded lists: every entry ends here.
-pub fn solve(
-    cr: &mut [f64],
-    h: &mut [f64],
-    f: &mut [f64],
-    u: &mut [u64],
-    y: &mut [u8],
-    m: &[u8],
-    l: &[u8],
-    b: &[f64],
-    g: Given,
-    how: Finish,
-    budget: usize,
-) -> Outcome
-    requires { ⌜ (Ready (problemOf g (now m)) (state (now f) (now u) (now y))) × (Paired (g .n) (now u)) × (g .side ≡ g .n) × (1 ≤ g .n) × (budget ≤ 10000000)
-        × (g .n ≤ length (now b)) × (g .n ≤ length (now l)) × (g .n ≤ length (now cr)) × (g .n ≤ length (now h)) ⌝ }
-    ensures { λ o. ⌜ _≡_ {A = Whole} (whole o (now (cr .exit)) (now (h .exit)) (now (f .exit)) (now (u .exit)) (now (y .exit)))
-        (solved g how (now (m .entry)) (now (l .entry)) (now (b .entry)) budget (lent (now (cr .entry)) (now (h .entry)) (now (f .entry)) (now (u .entry)) (now (y .entry)))) ⌝ }
-{
-    let r = solver::train(f, u, y, m, b, g, budget);
-    let out = settle(cr, h, f, u, y, l, g, how, budget, r);
-    clear(f, u, y, g.n);
-    out
 }

@@ -1,10 +1,14 @@
-// What the four entries share: their definitions, and the run over what was judged.
+// What the four entries share: their definitions, and from what was judged to the answer.
 ghost use mathlib.Core.Path.{_≡_};
 ghost use Prim.Native.Nat.{ℕ, _*_, _≤_};
 ghost use lib.ListN.{length};
 ghost use Rattle.answer.specs.Lent.{lent, Whole, whole};
+ghost use Rattle.answer.specs.Solved.{solved};
 ghost use Rattle.judge.specs.Sizes.{Room};
 ghost use Rattle.kernel.specs.Matrix.{Matrix};
+ghost use Rattle.solver.specs.Run.{problemOf};
+ghost use Rattle.state.specs.Lists.{state, Ready};
+ghost use Rattle.travel.specs.Travel.{Paired};
 ghost use Rattle.classification.specs.Entries.{givenOf, fitted};
 use alpha::Alpha;
 use answer::Finish;
@@ -24,6 +28,31 @@ fn given(n: usize, kind: Kind, eps: f64, shrinking: bool, nu: bool) -> Given
         shrinking,
         nu,
     }
+}
+
+// A run over loaded lists: every entry ends here.
+fn solve(
+    cr: &mut [f64],
+    h: &mut [f64],
+    f: &mut [f64],
+    u: &mut [u64],
+    y: &mut [u8],
+    m: &[u8],
+    l: &[u8],
+    b: &[f64],
+    g: Given,
+    how: Finish,
+    budget: usize,
+) -> Outcome
+    requires { ⌜ (Ready (problemOf g (now m)) (state (now f) (now u) (now y))) × (Paired (g .n) (now u)) × (g .side ≡ g .n) × (1 ≤ g .n) × (budget ≤ 10000000)
+        × (g .n ≤ length (now b)) × (g .n ≤ length (now l)) × (g .n ≤ length (now cr)) × (g .n ≤ length (now h)) ⌝ }
+    ensures { λ o. ⌜ _≡_ {A = Whole} (whole o (now (cr .exit)) (now (h .exit)) (now (f .exit)) (now (u .exit)) (now (y .exit)))
+        (solved g how (now (m .entry)) (now (l .entry)) (now (b .entry)) budget (lent (now (cr .entry)) (now (h .entry)) (now (f .entry)) (now (u .entry)) (now (y .entry)))) ⌝ }
+{
+    let r = solver::train(f, u, y, m, b, g, budget);
+    let out = answer::settle(cr, h, f, u, y, l, g, how, budget, r);
+    answer::clear(f, u, y, g.n);
+    out
 }
 
 // Labels l, ceilings c, start weights a, linear terms p: loaded, then solved.
@@ -52,5 +81,5 @@ pub fn fit(
 {
     fits::load(f, u, y, l, c, a, p, n);
     let g = given(n, kind, eps, shrinking, nu);
-    answer::solve(cr, h, f, u, y, m, l, c, g, how, budget as usize)
+    solve(cr, h, f, u, y, m, l, c, g, how, budget as usize)
 }

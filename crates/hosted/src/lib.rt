@@ -54,8 +54,8 @@ fn reason_number(r: ExitReason) -> u64
     }
 }
 
-fn words_of(o: Outcome) -> [u64; 9]
-    ensures { λ w. ⌜ w ≡ wordsOf o ⌝ }
+pub fn words_of(o: Outcome) -> [u64; 9]
+    ensures { λ w. ⌜ (w ≡ wordsOf o) × (9 ≡ length w) ⌝ }
 {
     match o {
         Outcome::Refused(number, index) => [number, index as u64, 0, 0, 0, 0, 0, 0, 0],

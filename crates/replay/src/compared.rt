@@ -2,9 +2,7 @@
 ghost use mathlib.Core.Path.{_≡_};
 ghost use Prim.Native.Nat.{_≤_};
 ghost use lib.ListN.{length};
-use answer::ExitReason;
 use answer::Outcome;
-use answer::Ratio;
 use recorded::agree;
 use recorded::layout;
 
@@ -24,52 +22,6 @@ pub fn whole(b: &[u8]) -> bool {
         & (layout::word(b, 16) <= 4096)
         & (layout::word(b, 17) <= 2048)
         & (layout::word(b, 18) <= 1024)
-}
-
-fn ratio_there(r: Ratio) -> u64 {
-    match r {
-        Ratio::Absent => 0,
-        Ratio::Present(_) => 1,
-    }
-}
-
-fn ratio_word(r: Ratio) -> u64 {
-    match r {
-        Ratio::Absent => 0,
-        Ratio::Present(x) => wire::pattern_of(x),
-    }
-}
-
-fn reason_word(e: ExitReason) -> u64 {
-    match e {
-        ExitReason::ReachedThreshold => 0,
-        ExitReason::ReachedIterations => 1,
-    }
-}
-
-// The answer's nine words, as a record has them.
-pub fn answer_words(o: Outcome) -> [u64; 9]
-    ensures { λ r. ⌜ 9 ≡ length r ⌝ }
-{
-    let mut w = [0u64; 9];
-    match o {
-        Outcome::Refused(number, index) => {
-            w[0] = number;
-            w[1] = index as u64;
-        }
-        Outcome::Accepted(a) => {
-            let r = a.r;
-            let e = a.exit_reason;
-            w[2] = wire::pattern_of(a.rho);
-            w[3] = ratio_there(r);
-            w[4] = ratio_word(r);
-            w[5] = wire::pattern_of(a.obj);
-            w[6] = a.iterations as u64;
-            w[7] = reason_word(e);
-            w[8] = a.support as u64;
-        }
-    }
-    w
 }
 
 fn at_record(k: u64) {
@@ -133,17 +85,18 @@ fn answer_noted(k: u64, a: &[u64; 9], b: &[u8], at: usize) -> u64
 pub fn differing(
     k: u64,
     b: &[u8],
-    a: &[u64; 9],
+    o: Outcome,
     cr: &[f64],
     h: &[f64],
     f: &[f64],
     u: &[u64],
     y: &[u8],
 ) -> u64 {
+    let a = hosted::words_of(o);
     let at = layout::answer_at(b);
     let n = layout::told(b);
     let used = layout::used(b);
-    answer_noted(k, a, b, at)
+    answer_noted(k, &a, b, at)
         + noted(
             k,
             b"the crate's reading\n",

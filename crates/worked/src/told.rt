@@ -1,8 +1,5 @@
 // An outcome in words, with its floats as patterns.
-use answer::Answer;
-use answer::ExitReason;
 use answer::Outcome;
-use answer::Ratio;
 use readings::Reading;
 
 fn text(s: &[u8]) {
@@ -42,8 +39,7 @@ fn other(w: u64) {
 }
 
 // A pattern, and in decimal too where the value is one that the worked runs name.
-fn float(x: f64) {
-    let w = wire::pattern_of(x);
+fn pattern(w: u64) {
     io::print_hex(1, w, 16);
     match w {
         0 => {
@@ -62,44 +58,42 @@ fn float(x: f64) {
     }
 }
 
+fn float(x: f64) {
+    pattern(wire::pattern_of(x));
+}
+
 fn number_line(name: &[u8], n: u64) {
     text(name);
     io::print_decimal(1, n);
     text(b"\n");
 }
 
-fn ratio(r: Ratio) {
+fn ratio(there: u64, w: u64) {
     text(b"  r           ");
-    match r {
-        Ratio::Absent => {
-            text(b"absent\n");
-        }
-        Ratio::Present(x) => float(x),
+    if there == 0 {
+        text(b"absent\n");
+        return;
     }
+    pattern(w);
 }
 
-fn reason(e: ExitReason) {
-    match e {
-        ExitReason::ReachedThreshold => {
-            text(b"  reason      threshold\n");
-        }
-        ExitReason::ReachedIterations => {
-            text(b"  reason      iterations\n");
-        }
+fn reason(w: u64) {
+    if w == 0 {
+        text(b"  reason      threshold\n");
+        return;
     }
+    text(b"  reason      iterations\n");
 }
 
-fn accepted(a: Answer) {
-    let r = a.r;
-    let e = a.exit_reason;
+fn accepted(w: [u64; 9]) {
     text(b"  accepted\n  rho         ");
-    float(a.rho);
-    ratio(r);
+    pattern(w[2]);
+    ratio(w[3], w[4]);
     text(b"  obj         ");
-    float(a.obj);
-    number_line(b"  iterations  ", a.iterations as u64);
-    reason(e);
-    number_line(b"  support     ", a.support as u64);
+    pattern(w[5]);
+    number_line(b"  iterations  ", w[6]);
+    reason(w[7]);
+    number_line(b"  support     ", w[8]);
 }
 
 fn coefficients(name: &[u8], part: &[f64]) {
@@ -115,15 +109,13 @@ fn coefficients(name: &[u8], part: &[f64]) {
 // The outcome of a run over n samples; its coefficients where there are few.
 pub fn outcome<'a>(name: &[u8], o: Outcome, cr: &'a [f64], h: &'a [f64], n: usize) {
     text(name);
-    match o {
-        Outcome::Refused(number, index) => {
-            number_line(b"  refusal     ", number);
-            number_line(b"  index       ", index as u64);
-        }
-        Outcome::Accepted(a) => {
-            accepted(a);
-            coefficients(b"  crate       ", readings::shown(cr, h, Reading::Crate, n));
-            coefficients(b"  home        ", readings::shown(cr, h, Reading::Home, n));
-        }
+    let w = hosted::words_of(o);
+    if w[0] > 0 {
+        number_line(b"  refusal     ", w[0]);
+        number_line(b"  index       ", w[1]);
+        return;
     }
+    accepted(w);
+    coefficients(b"  crate       ", readings::shown(cr, h, Reading::Crate, n));
+    coefficients(b"  home        ", readings::shown(cr, h, Reading::Home, n));
 }

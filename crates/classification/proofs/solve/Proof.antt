@@ -4,11 +4,11 @@ use Rattle.readings.specs.Order.{Within}
 use Rattle.solver.specs.Run.{Full}
 use Rattle.state.specs.Lists.{state}
 use Rattle.travel.proofs.Within.{trained-within}
 use Rattle.answer.specs.Lent.{lent}
 use Rattle.answer.proofs.Laws.{solved-by}
 use borrow.Author.Needs.{needs}
-use Rattle.answer.proofs.solve.Statement.{statement}
-use Rattle.answer.proofs.solve.Tie as tie
+use Rattle.classification.proofs.solve.Statement.{statement}
+use Rattle.classification.proofs.solve.Tie as tie
 
 settle-requires : tie.Need-settle-requires
 settle-requires c κs =
