@@ -19,14 +19,9 @@ use Rattle.partner.specs.Second.{isAt, placeOf, leads, gap, gainOf, seco
 use Rattle.partner.specs.Sides.{mayFall}
 
 -- where there is a position, a lead's kernel index has its column
-lead-index : (side n : ℕ) (s : State) (v : Float) (h : Found) → Indexed side n (s .numbers) → 0 < n → Below n h → leadAt n s v h .index < side
+pub lead-index : (side n : ℕ) (s : State) (v : Float) (h : Found) → Indexed side n (s .numbers) → 0 < n → Below n h → leadAt n s v h .index < side
 lead-index side n s v (At i) x l b = x .below i (b i refl)
 lead-index side n s v Nobody x l b = let z = x .below 0 l in omega arith
-
-pub own-index : (side n : ℕ) (s : State) (t : Bool) (p q : Extreme) → Indexed side n (s .numbers) → 0 < n → Below n (p .holder) → Below n (q .holder)
-    → cond t (leadAt n s (p .value) (p .holder)) (leadAt n s (q .value) (q .holder)) .index < side
-own-index side n s true p q x l b d = lead-index side n s (p .value) (p .holder) x l b
-own-index side n s false p q x l b d = lead-index side n s (q .value) (q .holder) x l d
 
 module _ (p : Problem) (s : State) (floor : Float) where
   after-lead : (j : ℕ) (e : Extreme) (v : Float) (h : Found) → weighedAfter p s floor (leadAt (p .n) s v h) j e

@@ -3,7 +3,8 @@
 ghost use mathlib.Core.Bool.{cond};
 ghost use mathlib.Core.Path.{_≡_};
 ghost use Prim.Native.Nat.{_+_, _*_, _≤_, _<_};
-ghost use lib.ListN.{length};
+ghost use lib.Dec.{eqb};
+ghost use lib.ListN.{length, getD};
 ghost use Rattle.extreme.specs.Best.{Below};
 ghost use Rattle.kernel.specs.Row.{Indexed};
 ghost use Rattle.state.specs.Lists.{problem, state, Ready};
@@ -99,12 +100,6 @@ fn lead_of(f: &[f64], u: &[u64], y: &[u8], n: usize, side: usize, e: Extreme) ->
     }
 }
 
-fn own(pos: bool, p: Lead, q: Lead) -> Lead
-    ensures { λ r. ⌜ r ≡ cond pos p q ⌝ }
-{
-    if pos { p } else { q }
-}
-
 // The curvature of the lead l and position j.
 fn curve_at(
     f: &[f64],
@@ -161,6 +156,32 @@ fn weighed_after(
     }
 }
 
+// Position j weighed after the lead of its label: lp of the positives, lq of the negatives.
+fn weighed_by_label(
+    f: &[f64],
+    u: &[u64],
+    y: &[u8],
+    n: usize,
+    side: usize,
+    kind: Kind,
+    m: &[u8],
+    floor: f64,
+    lp: Lead,
+    lq: Lead,
+    j: usize,
+    e: Extreme,
+) -> Extreme
+    requires { ⌜ (Ready (problem n side kind (now m)) (state (now f) (now u) (now y))) × (j < n) × (lp .index < side) × (lq .index < side) ⌝ }
+    ensures { λ r. ⌜ r ≡ weighedAfter (problem n side kind (now (m .entry)))
+        (state (now (f .entry)) (now (u .entry)) (now (y .entry))) floor (cond (eqb (getD (now (y .entry)) j 0) 1) lp lq) j e ⌝ }
+{
+    if y[j] == 1 {
+        weighed_after(f, u, y, n, side, kind, m, floor, lp, j, e)
+    } else {
+        weighed_after(f, u, y, n, side, kind, m, floor, lq, j, e)
+    }
+}
+
 // The least gain after the leads p, of the positives, and q, of the negatives.
 pub fn partner(
     f: &[f64],
@@ -187,8 +208,7 @@ pub fn partner(
         holder: Found::Nobody,
     };
     for j in 0..active {
-        let l = own(y[j] == 1, lp, lq);
-        e = weighed_after(f, u, y, n, side, kind, m, floor, l, j, e);
+        e = weighed_by_label(f, u, y, n, side, kind, m, floor, lp, lq, j, e);
     }
     e
 }

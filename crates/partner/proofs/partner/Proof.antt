@@ -5,9 +5,8 @@ use native.Mathlib.Omega.{arith}
 use denote.Ref.{now}
 use lib.Ieee.{ofBits, div}
 use Rattle.state.specs.Lists.{problem, state}
-use Rattle.state.specs.Fields.{positive}
 use Rattle.partner.specs.Lead.{allAfter}
-use Rattle.partner.proofs.Steps.{own-index, after-leads}
+use Rattle.partner.proofs.Steps.{lead-index, after-leads}
 use borrow.Author.Needs.{needs}
 use Rattle.partner.proofs.partner.Statement.{statement}
 use Rattle.partner.proofs.partner.Tie as tie
@@ -22,21 +21,21 @@ loop-holds : tie.Need-loop-holds Inv-loop μ-loop
 unfolding allAfter div ofBits
 loop-holds c = (search needs, refl)
 
-weighed-after-requires : tie.Need-weighed-after-requires Inv-loop μ-loop
-weighed-after-requires c κs =
-    let z = c .before .before .before .before .before .before .before .before .before .before in
+weighed-by-label-requires : tie.Need-weighed-by-label-requires Inv-loop μ-loop
+weighed-by-label-requires c κs =
+    let z = c .before .before .before .before .before .before .before .before in
     let a = z .args in
     let s = state (now (a .f)) (now (a .u)) (now (a .y)) in
-    let t = positive s (c .before .before .before .loop .j) in
-    let l = own-index (a .side) (a .n) s t (a .p) (a .q) (z .pre .0 .indexed) (omega arith) (z .pre .2) (z .pre .3) in
-    (search needs, search needs, rw (c .own .ensures, c .before .before .before .before .before .lead-of .ensures, c .before .before .before .before .lead-of2 .ensures) l)
+    let p = lead-index (a .side) (a .n) s (a .p .value) (a .p .holder) (z .pre .0 .indexed) (omega arith) (z .pre .2) in
+    let q = lead-index (a .side) (a .n) s (a .q .value) (a .q .holder) (z .pre .0 .indexed) (omega arith) (z .pre .3) in
+    (search needs, search needs, rw (c .before .before .before .lead-of .ensures) p, rw (c .before .before .lead-of2 .ensures) q)
 
 add-j : tie.Need-add-j Inv-loop μ-loop
-add-j c = let z = c .before .before .before .before .before .before .before .before .before .before .before .pre in omega arith
+add-j c = let z = c .before .before .before .before .before .before .before .before .before .pre in omega arith
 
 loop-again : tie.Need-loop-again Inv-loop μ-loop
 unfolding allAfter
-loop-again c = (search needs, rw (add-one, ← c .before .before .before .before .loop .inv .1, ← c .before .own .ensures) (c .weighed-after .ensures))
+loop-again c = (search needs, rw (add-one, ← c .before .before .loop .inv .1) (c .weighed-by-label .ensures))
 
 returns : tie.Need-returns Inv-loop μ-loop
 returns c =
@@ -56,9 +55,7 @@ partner-spec =
     (λ c κs. search needs)
     (λ c κs. search needs)
     loop-holds
-    (λ c. search needs)
-    (λ c κs. search needs)
-    weighed-after-requires
+    weighed-by-label-requires
     add-j
     (λ c. search needs)
     loop-again
