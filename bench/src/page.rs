@@ -285,7 +285,7 @@ const TIMED: &str = "\
 - Library: the whole C call, with judging every matrix entry before the run, decoding and writing the answer.
 - Rust: `fit_c`, `fit_nu` or `fit_one_class` of the published text (oracle/published), without a line added, over the cheapest host:
   the matrix is shared, and a column is lent, not copied. The rows that its `distances` makes it makes itself. Built for release
-  (opt-level 3, one codegen unit, `lto = "fat"`), without overflow checks.
+  (opt-level 3, one codegen unit, lto), without overflow checks.
 - LIBSVM: `svm_train` with a precomputed kernel and 400 MB for its rows; the matrix is brought into its form beforehand.
 - scikit-learn: its inner `_libsvm.fit` with a precomputed kernel, timed within Python.
 
