@@ -16,7 +16,7 @@ pub fn counted(folder: &Path, file: &Path, who: &str, function: &str) -> Option<
         .arg(format!("--callgrind-out-file={}", out.display()))
         .arg(format!("--toggle-collect={function}"))
         .arg(std::env::current_exe().ok()?)
-        .args(["once", who, file.to_str()?, "10", "0"])
+        .args(["once", who, file.to_str()?, "c:10", "0"])
         .stderr(Stdio::null())
         .stdout(Stdio::null())
         .status()

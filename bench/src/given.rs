@@ -153,6 +153,18 @@ impl Task {
         Task::OneClass(0.2),
     ];
 
+    /// From c:10, nu:0.3 or one-class:0.2.
+    pub fn read(word: &str) -> Option<Task> {
+        let (kind, number) = word.split_once(':')?;
+        let number = number.parse().ok()?;
+        match kind {
+            "c" => Some(Task::C(number)),
+            "nu" => Some(Task::Nu(number)),
+            "one-class" => Some(Task::OneClass(number)),
+            _ => None,
+        }
+    }
+
     pub fn name(self) -> String {
         match self {
             Task::C(c) => format!("C = {c}"),

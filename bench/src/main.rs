@@ -17,8 +17,8 @@ const HELP: &str = "bench table PAGE FOLDER MACHINE [FILE..]
     times all and writes PAGE; FOLDER is for what is drawn and counted, MACHINE a file with a line for each thing to say of the machine
 bench quick
     compares the library with the Rust, bit for bit, on the drawn matrices of 64 and 128 samples
-bench once library|rust|libsvm FILE C SHRINKING
-    one training";
+bench once library|rust|libsvm FILE TASK SHRINKING
+    one training; TASK is c:10, nu:0.3 or one-class:0.2, say, SHRINKING 0 or 1";
 
 /// The threshold of every training.
 pub const EPS: f64 = 0.001;
@@ -61,7 +61,7 @@ fn main() -> ExitCode {
     let well = match words[..] {
         ["table", page, folder, machine, ref files @ ..] => table(page, folder, machine, files),
         ["quick"] => Some(quick()),
-        ["once", who, file, c, shrinking] => once(who, file, c, shrinking),
+        ["once", who, file, task, shrinking] => once(who, file, task, shrinking),
         _ => None,
     };
     match well {
@@ -99,9 +99,9 @@ fn quick() -> bool {
     fine
 }
 
-fn once(who: &str, file: &str, c: &str, shrinking: &str) -> Option<bool> {
+fn once(who: &str, file: &str, task: &str, shrinking: &str) -> Option<bool> {
     let given = read(file)?;
-    let (task, shrinking) = (Task::C(c.parse().ok()?), shrinking != "0");
+    let (task, shrinking) = (Task::read(task)?, shrinking != "0");
     match who {
         "library" => library::Library::new(&given, task, shrinking).fit(),
         "rust" => rust::Rust::new(&given, task, shrinking).fit(),
