@@ -29,7 +29,7 @@ struct peer *peer_open(size_t n, const double *matrix, const uint8_t *labels, in
     p->problem.l = (int)n;
     p->problem.y = malloc(n * sizeof(double));
     p->problem.x = malloc(n * sizeof(struct svm_node *));
-    p->nodes = malloc(n * (n + 2) * sizeof(struct svm_node));
+    p->nodes = calloc(n * (n + 2), sizeof(struct svm_node));
     for (size_t k = 0; k < n; k++) {
         struct svm_node *row = p->nodes + k * (n + 2);
         p->problem.y[k] = labels[k] ? 1.0 : -1.0;
@@ -51,6 +51,15 @@ struct peer *peer_open(size_t n, const double *matrix, const uint8_t *labels, in
     p->parameter.shrinking = shrinking;
     svm_set_print_string_function(listen);
     return p;
+}
+
+/* Reads the matrix once. */
+double peer_warm(const struct peer *p)
+{
+    size_t n = (size_t)p->problem.l;
+    double sum = 0;
+    for (size_t k = 0; k < n * (n + 2); k++) sum += p->nodes[k].value;
+    return sum;
 }
 
 void peer_fit(struct peer *p)

@@ -177,9 +177,9 @@ fn instructions(b: &Beside, rows: &[Row]) -> String {
         return "Not counted: valgrind is missing (`apt install valgrind`).\n\n".to_string();
     }
     let mut text = format!(
-        "{}, shrinking off, one training. Only what runs within `altuliscia_c`, `rust_fit` (the call of `fit_c`) or `svm_train` is counted\n\
-         (`valgrind --tool=callgrind --toggle-collect=NAME`). A pass is one step; the choice that finds nothing more to do counts to the\n\
-         total alone.\n\n\
+        "{}, shrinking off, one training. Only what runs within `altuliscia_c`, `rust_fit` (the call of\n\
+         `fit_c`) or `svm_train` is counted (`valgrind --tool=callgrind --toggle-collect=NAME`). A pass is one step; the\n\
+         choice that finds nothing more to do counts to the total alone.\n\n\
          | who | instructions | passes | a pass | a pass and sample |\n|---|---|---|---|---|\n",
         what(row)
     );
@@ -261,7 +261,7 @@ pub fn text(rows: &[Row], b: &Beside) -> String {
         "# Benchmarks\n\n`bench/run` writes this page. Nothing here is written by hand.\n\n{}\n## What is timed\n\n{TIMED}\n\
          A row is taken in turns: library, Rust, LIBSVM, scikit-learn, and again, {turns} times in the middle row. A ratio is the median of\n\
          the ratios turn by turn, so what slows the machine for a while slows all four. A time is the median of its turns. An empty place:\n\
-         that one wasn't there.\n\n{DRAWN}\n## Where it stands\n\n",
+         that one wasn't there. Before each training its matrix is read once, untimed, so that nobody brings it near for the next one.\n\n{DRAWN}\n## Where it stands\n\n",
         b.machine
     );
     text += &goals(rows);

@@ -18,6 +18,7 @@ mod linked {
             eps: f64,
             shrinking: i32,
         ) -> *mut u8;
+        pub fn peer_warm(peer: *mut u8) -> f64;
         pub fn peer_fit(peer: *mut u8);
         pub fn peer_forget(peer: *mut u8) -> i32;
         pub fn peer_close(peer: *mut u8);
@@ -29,6 +30,9 @@ mod linked {
     #[rustfmt::skip]
     pub unsafe fn peer_open(_: usize, _: *const f64, _: *const u8, _: i32, _: f64, _: f64, _: f64, _: i32) -> *mut u8 {
         std::ptr::null_mut()
+    }
+    pub unsafe fn peer_warm(_: *mut u8) -> f64 {
+        0.0
     }
     pub unsafe fn peer_fit(_: *mut u8) {}
     pub unsafe fn peer_forget(_: *mut u8) -> i32 {
@@ -50,6 +54,11 @@ impl Libsvm {
         let peer =
             unsafe { linked::peer_open(given.n, matrix, labels, kind, c, nu, EPS, shrinking) };
         (!peer.is_null()).then_some(Libsvm { peer })
+    }
+
+    /// Reads its matrix once.
+    pub fn warm(&self) {
+        std::hint::black_box(unsafe { linked::peer_warm(self.peer) });
     }
 
     pub fn fit(&mut self) {

@@ -52,6 +52,11 @@ fn timed(f: impl FnOnce()) -> f64 {
     begun.elapsed().as_nanos() as f64
 }
 
+/// Reads the matrix once, so that who comes next finds it near, as if it had just been computed.
+fn warm(given: &Given) {
+    std::hint::black_box(given.matrix.iter().sum::<f64>());
+}
+
 /// The library beside the oracle and beside the Rust that is timed.
 pub fn compared(given: &Given, task: Task, shrinking: bool) -> (Answers, u64) {
     let (mut library, mut rust) = (
@@ -106,12 +111,15 @@ pub fn measured(
             break;
         }
         let mut times = [None; 4];
+        warm(given);
         times[LIBRARY] = Some(timed(|| library.fit()));
         if answers != Answers::Refused {
+            warm(given);
             times[RUST] = Some(timed(|| rust.fit()));
             rust.forget();
         }
         if let Some(libsvm) = &mut libsvm {
+            libsvm.warm();
             times[LIBSVM] = Some(timed(|| libsvm.fit()));
             row.libsvm_passes = Some(libsvm.forget());
         }
