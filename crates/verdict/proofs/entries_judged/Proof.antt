@@ -2,11 +2,11 @@ use Prim.Native.Nat.{_≤_, _-_}
 use mathlib.Core.Path.{_≡_, sym, _∙_}
 use native.Mathlib.Nat.{sub-zero}
 use native.Mathlib.Omega.{arith}
 use Rattle.judge.specs.Judge.{first, entryGood}
 use Rattle.judge.proofs.First.{on, stop, done}
 use borrow.Author.Needs.{needs}
-use Rattle.judge.proofs.entries_judged.Statement.{statement}
-use Rattle.judge.proofs.entries_judged.Tie as tie
+use Rattle.verdict.proofs.entries_judged.Statement.{statement}
+use Rattle.verdict.proofs.entries_judged.Tie as tie
 
 abbrev Inv-loop : tie.InvT-loop
 Inv-loop m e i₀ i = (i ≤ e) × (first 3 (entryGood m) e 0 ≡ first 3 (entryGood m) (e - i) i)

@@ -2,11 +2,11 @@ use Prim.Native.Nat.{_≤_, _-_}
 use mathlib.Core.Bool.{true}
 use mathlib.Core.Path.{_≡_}
 use native.Mathlib.Omega.{arith}
 use Rattle.judge.specs.Judge.{entryGood}
-use Rattle.judge.proofs.Quick.{Each, one-more}
+use Rattle.verdict.proofs.Quick.{Each, one-more}
 use borrow.Author.Needs.{needs}
-use Rattle.judge.proofs.all_small.Statement.{statement}
-use Rattle.judge.proofs.all_small.Tie as tie
+use Rattle.verdict.proofs.all_small.Statement.{statement}
+use Rattle.verdict.proofs.all_small.Tie as tie
 
 abbrev Inv-loop : tie.InvT-loop
 Inv-loop m e small₀ k₀ small k = (k ≤ e) × (small ≡ true → Each (entryGood m) 0 k)

@@ -1,6 +1,6 @@
 use borrow.Author.Needs.{needs}
-use Rattle.judge.proofs.in_limit.Statement.{statement}
-use Rattle.judge.proofs.in_limit.Tie as tie
+use Rattle.verdict.proofs.in_limit.Statement.{statement}
+use Rattle.verdict.proofs.in_limit.Tie as tie
 
 returns : tie.Need-returns
 returns c = rw (c .before .kernel-limit .ensures, c .kernel-limit2 .ensures)

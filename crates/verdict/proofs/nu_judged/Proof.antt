@@ -1,7 +1,7 @@
 use Rattle.judge.specs.Judge.{nuJudged}
 use borrow.Author.Needs.{needs}
-use Rattle.judge.proofs.nu_judged.Statement.{statement}
-use Rattle.judge.proofs.nu_judged.Tie as tie
+use Rattle.verdict.proofs.nu_judged.Statement.{statement}
+use Rattle.verdict.proofs.nu_judged.Tie as tie
 
 returns : tie.Need-returns
 unfolding nuJudged

@@ -1,8 +1,8 @@
 use Rattle.judge.specs.Judge.{entryGood}
-use Rattle.judge.proofs.Quick.{eight}
+use Rattle.verdict.proofs.Quick.{eight}
 use borrow.Author.Needs.{needs}
-use Rattle.judge.proofs.eight_small.Statement.{statement}
-use Rattle.judge.proofs.eight_small.Tie as tie
+use Rattle.verdict.proofs.eight_small.Statement.{statement}
+use Rattle.verdict.proofs.eight_small.Tie as tie
 
 returns : tie.Need-returns
 returns c =

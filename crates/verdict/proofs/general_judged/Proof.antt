@@ -1,7 +1,7 @@
 use Rattle.judge.specs.Judge.{generalJudged}
 use borrow.Author.Needs.{needs}
-use Rattle.judge.proofs.general_judged.Statement.{statement}
-use Rattle.judge.proofs.general_judged.Tie as tie
+use Rattle.verdict.proofs.general_judged.Statement.{statement}
+use Rattle.verdict.proofs.general_judged.Tie as tie
 
 returns : tie.Need-returns
 unfolding generalJudged

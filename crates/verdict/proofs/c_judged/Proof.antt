@@ -1,7 +1,7 @@
 use Rattle.judge.specs.Judge.{cJudged}
 use borrow.Author.Needs.{needs}
-use Rattle.judge.proofs.c_judged.Statement.{statement}
-use Rattle.judge.proofs.c_judged.Tie as tie
+use Rattle.verdict.proofs.c_judged.Statement.{statement}
+use Rattle.verdict.proofs.c_judged.Tie as tie
 
 returns : tie.Need-returns
 unfolding cJudged

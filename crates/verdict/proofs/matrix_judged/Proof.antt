@@ -1,11 +1,11 @@
 use mathlib.Core.Path.{sym}
 use native.Mathlib.Omega.{arith}
 use Rattle.judge.specs.Judge.{entryGood}
 use Rattle.judge.proofs.First.{fine-first}
 use Rattle.judge.proofs.Lengths.{square}
 use borrow.Author.Needs.{needs}
-use Rattle.judge.proofs.matrix_judged.Statement.{statement}
-use Rattle.judge.proofs.matrix_judged.Tie as tie
+use Rattle.verdict.proofs.matrix_judged.Statement.{statement}
+use Rattle.verdict.proofs.matrix_judged.Tie as tie
 
 all-small-requires : tie.Need-all-small-requires
 all-small-requires c κs = (c .before .pre .1, square (c .before .pre .0))

@@ -1,7 +1,7 @@
 use Rattle.judge.specs.Judge.{oneClassJudged}
 use borrow.Author.Needs.{needs}
-use Rattle.judge.proofs.one_class_judged.Statement.{statement}
-use Rattle.judge.proofs.one_class_judged.Tie as tie
+use Rattle.verdict.proofs.one_class_judged.Statement.{statement}
+use Rattle.verdict.proofs.one_class_judged.Tie as tie
 
 returns : tie.Need-returns
 unfolding oneClassJudged
