@@ -1,9 +1,9 @@
 use native.Mathlib.Omega.{arith}
 use lib.ListN.{length-take}
-use Rattle.replay.proofs.Again.{long-again}
+use Rattle.played.proofs.Again.{long-again}
 use borrow.Author.Needs.{needs}
-use Rattle.replay.proofs.calls.fit_nu.Statement.{statement}
-use Rattle.replay.proofs.calls.fit_nu.Tie as tie
+use Rattle.played.proofs.calls.fit_nu.Statement.{statement}
+use Rattle.played.proofs.calls.fit_nu.Tie as tie
 
 slice-aggregate-fit-nu : tie.Need-slice-aggregate-fit-nu
 slice-aggregate-fit-nu c = simp length-take (omega arith)

@@ -1,8 +1,8 @@
 use Prim.Native.Nat.{_≤_, _-_}
 use native.Mathlib.Omega.{arith}
 use borrow.Author.Needs.{needs}
-use Rattle.replay.proofs.compared.fields_noted.Statement.{statement}
-use Rattle.replay.proofs.compared.fields_noted.Tie as tie
+use Rattle.played.proofs.compared.fields_noted.Statement.{statement}
+use Rattle.played.proofs.compared.fields_noted.Tie as tie
 
 abbrev Inv-loop : tie.InvT-loop
 Inv-loop k a b at z names i₀ i = i ≤ 9

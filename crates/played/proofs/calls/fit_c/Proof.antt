@@ -1,9 +1,9 @@
 use native.Mathlib.Omega.{arith}
 use lib.ListN.{length-take}
-use Rattle.replay.proofs.Again.{long-again}
+use Rattle.played.proofs.Again.{long-again}
 use borrow.Author.Needs.{needs}
-use Rattle.replay.proofs.calls.fit_c.Statement.{statement}
-use Rattle.replay.proofs.calls.fit_c.Tie as tie
+use Rattle.played.proofs.calls.fit_c.Statement.{statement}
+use Rattle.played.proofs.calls.fit_c.Tie as tie
 
 slice-aggregate-fit-c : tie.Need-slice-aggregate-fit-c
 slice-aggregate-fit-c c = simp length-take (omega arith)

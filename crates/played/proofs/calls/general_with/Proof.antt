@@ -1,9 +1,9 @@
 use native.Mathlib.Omega.{arith}
 use lib.ListN.{length-take}
-use Rattle.replay.proofs.Again.{long-again}
+use Rattle.played.proofs.Again.{long-again}
 use borrow.Author.Needs.{needs}
-use Rattle.replay.proofs.calls.general_with.Statement.{statement}
-use Rattle.replay.proofs.calls.general_with.Tie as tie
+use Rattle.played.proofs.calls.general_with.Statement.{statement}
+use Rattle.played.proofs.calls.general_with.Tie as tie
 
 slice-aggregate-general : tie.Need-slice-aggregate-general
 slice-aggregate-general c = simp length-take (omega arith)
