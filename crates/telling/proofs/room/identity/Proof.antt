@@ -2,8 +2,8 @@ use Prim.Native.Nat.{_-_}
 use mathlib.Core.Path.{_≡_, refl}
 use lib.ListN.{length}
 use borrow.Author.Needs.{needs}
-use Rattle.worked.proofs.room.identity.Statement.{statement}
-use Rattle.worked.proofs.room.identity.Tie as tie
+use Rattle.telling.proofs.room.identity.Statement.{statement}
+use Rattle.telling.proofs.room.identity.Tie as tie
 
 abbrev Inv-loop : tie.InvT-loop
 Inv-loop m₀ n end at₀ m at = length m ≡ length m₀

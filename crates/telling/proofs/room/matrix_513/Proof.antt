@@ -1,8 +1,8 @@
 use Prim.Native.Nat.{ℕ}
 use mathlib.Core.Path.{sym}
 use lib.ListN.{length-replicate}
-use Rattle.worked.proofs.room.matrix_513.Statement.{statement}
-use Rattle.worked.proofs.room.matrix_513.Tie as tie
+use Rattle.telling.proofs.room.matrix_513.Statement.{statement}
+use Rattle.telling.proofs.room.matrix_513.Tie as tie
 
 returns : tie.Need-returns
 returns c = sym (length-replicate {A = ℕ} 2105352 0)

@@ -1,7 +1,7 @@
 use Prim.Native.Nat.{_≤_, _-_}
 use borrow.Author.Needs.{needs}
-use Rattle.worked.proofs.told.coefficients.Statement.{statement}
-use Rattle.worked.proofs.told.coefficients.Tie as tie
+use Rattle.telling.proofs.told.coefficients.Statement.{statement}
+use Rattle.telling.proofs.told.coefficients.Tie as tie
 
 abbrev Inv-loop : tie.InvT-loop
 Inv-loop name part k₀ k-end k = k ≤ k-end

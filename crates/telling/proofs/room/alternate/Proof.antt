@@ -2,8 +2,8 @@ use Prim.Native.Nat.{_-_}
 use mathlib.Core.Path.{_≡_, refl}
 use lib.ListN.{length}
 use borrow.Author.Needs.{needs}
-use Rattle.worked.proofs.room.alternate.Statement.{statement}
-use Rattle.worked.proofs.room.alternate.Tie as tie
+use Rattle.telling.proofs.room.alternate.Statement.{statement}
+use Rattle.telling.proofs.room.alternate.Tie as tie
 
 abbrev Inv-loop : tie.InvT-loop
 Inv-loop l₀ end k₀ l k = length l ≡ length l₀
