@@ -79,7 +79,7 @@ pub fn sized(
     ensures { λ o. ⌜ _≡_ {A = Whole} (whole o (now (cr .exit)) (now (h .exit)) (now (f .exit)) (now (u .exit)) (now (y .exit)))
         (fitCSized n (now (m .entry)) (now (l .entry)) cpos cneg eps shrinking budget (lent (now (cr .entry)) (now (h .entry)) (now (f .entry)) (now (u .entry)) (now (y .entry)))) ⌝ }
 {
-    let j = judge::c_judged(n, m, l, cpos, cneg, eps, budget);
+    let j = verdict::c_judged(n, m, l, cpos, cneg, eps, budget);
     match j {
         Judged::Fine => started(n, m, l, cpos, cneg, eps, shrinking, budget, cr, h, f, u, y),
         Judged::Bad(number, index) => Outcome::Refused(number, index),

@@ -77,7 +77,7 @@ pub fn sized(
     ensures { λ o. ⌜ _≡_ {A = Whole} (whole o (now (cr .exit)) (now (h .exit)) (now (f .exit)) (now (u .exit)) (now (y .exit)))
         (fitNuSized n (now (m .entry)) (now (l .entry)) nu eps shrinking budget (lent (now (cr .entry)) (now (h .entry)) (now (f .entry)) (now (u .entry)) (now (y .entry)))) ⌝ }
 {
-    let j = judge::nu_judged(n, m, l, nu, eps, budget);
+    let j = verdict::nu_judged(n, m, l, nu, eps, budget);
     match j {
         Judged::Fine => started(n, m, l, nu, eps, shrinking, budget, cr, h, f, u, y),
         Judged::Bad(number, index) => Outcome::Refused(number, index),

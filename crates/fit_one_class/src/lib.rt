@@ -77,7 +77,7 @@ pub fn sized(
     ensures { λ o. ⌜ _≡_ {A = Whole} (whole o (now (cr .exit)) (now (h .exit)) (now (f .exit)) (now (u .exit)) (now (y .exit)))
         (fitOneClassSized n (now (m .entry)) nu eps shrinking budget (lent (now (cr .entry)) (now (h .entry)) (now (f .entry)) (now (u .entry)) (now (y .entry)))) ⌝ }
 {
-    let j = judge::one_class_judged(n, m, nu, eps, budget);
+    let j = verdict::one_class_judged(n, m, nu, eps, budget);
     match j {
         Judged::Fine => started(n, m, nu, eps, shrinking, budget, cr, h, f, u, y),
         Judged::Bad(number, index) => Outcome::Refused(number, index),

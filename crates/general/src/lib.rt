@@ -33,7 +33,7 @@ pub fn sized(
     ensures { λ o. ⌜ _≡_ {A = Whole} (whole o (now (cr .exit)) (now (h .exit)) (now (f .exit)) (now (u .exit)) (now (y .exit)))
         (generalSized n (now (m .entry)) (now (l .entry)) (now (c .entry)) (now (a .entry)) (now (p .entry)) nurule eps shrinking budget (lent (now (cr .entry)) (now (h .entry)) (now (f .entry)) (now (u .entry)) (now (y .entry)))) ⌝ }
 {
-    let j = judge::general_judged(n, m, l, c, a, p, eps, budget);
+    let j = verdict::general_judged(n, m, l, c, a, p, eps, budget);
     match j {
         Judged::Fine => classification::fit(
             cr,

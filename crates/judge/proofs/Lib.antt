@@ -1,6 +1,5 @@
 pub mod First
 pub mod Bits
-pub mod Quick
 pub mod Lengths
 pub mod Accepted
 pub mod Worked

@@ -1,6 +1,4 @@
 // Plays every record of the oracle's answers through the four entries, and prints how many there are and how many differ.
-mod calls;
-mod compared;
 mod counted;
 
 ghost use mathlib.Core.Path.{_≡_};
@@ -64,7 +62,7 @@ fn play_small(k: u64, b: &[u8], s: &[u8], m: &mut [u8], t: &mut [u64])
     }
     layout::expand(m, s, e);
     let n = 8 * e;
-    let d = calls::tried(k, b, &m[..n]);
+    let d = played::calls::tried(k, b, &m[..n]);
     counted::count(b, d, t);
 }
 
@@ -76,7 +74,7 @@ fn play(k: u64, b: &[u8], m: &mut [u8], t: &mut [u64])
         play_small(k, b, s, m, t);
         return;
     }
-    let d = calls::tried(k, b, s);
+    let d = played::calls::tried(k, b, s);
     counted::count(b, d, t);
 }
 
@@ -89,7 +87,7 @@ fn one(fd: i32, k: u64, rec: &mut [u8], m: &mut [u8], t: &mut [u64]) -> bool
         return false;
     }
     let b: &[u8] = &rec[..e];
-    if compared::whole(b) {
+    if played::compared::whole(b) {
         play(k, b, m, t);
         return true;
     }

@@ -1,8 +1,6 @@
 // Prints what the proved leaves answer on small inputs, then the rule's worked runs through the entries.
 mod leaves;
-mod room;
 mod runs;
-mod told;
 
 fn main() {
     leaves::told();

@@ -1,6 +1,6 @@
 // The rule's worked runs.
-use crate::room;
-use crate::told;
+use telling::room;
+use telling::told;
 
 // ---- one call of an entry
 
