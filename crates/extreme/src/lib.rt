@@ -1,6 +1,8 @@
 // A running extreme: the best value so far, and who holds it. Each function weighs one more candidate.
+ghost use mathlib.Core.Bool.{cond};
 ghost use mathlib.Core.Path.{_≡_};
 ghost use Rattle.extreme.specs.Best.{weighed, atLeast, above, atMost};
+ghost use Rattle.extreme.specs.Racing.{below, raced};
 
 pub enum Found {
     At(usize),
@@ -10,6 +12,12 @@ pub enum Found {
 pub struct Extreme {
     pub value: f64,
     pub holder: Found,
+}
+
+// The same without the holder's word for it: where nobody holds it, at has no meaning, or a meaning of its owner's.
+pub struct Race {
+    pub value: f64,
+    pub at: usize,
 }
 
 // What a rule for the pair answers.
@@ -63,16 +71,34 @@ pub fn lifted(b: Extreme, may: bool, k: usize, v: f64) -> Extreme
     }
 }
 
-// The least, the last of equals.
-pub fn lowered(b: Extreme, may: bool, k: usize, v: f64) -> Extreme
-    ensures { λ r. ⌜ r ≡ weighed atMost may k v b ⌝ }
+fn value_of(better: bool, v: f64, b: f64) -> f64
+    ensures { λ r. ⌜ r ≡ cond better v b ⌝ }
 {
-    if may & (v <= b.value) {
-        Extreme {
-            value: v,
-            holder: Found::At(k),
-        }
-    } else {
-        anew(b)
+    if better { v } else { b }
+}
+
+fn place_of(better: bool, k: usize, at: usize) -> usize
+    ensures { λ r. ⌜ r ≡ cond better k at ⌝ }
+{
+    if better { k } else { at }
+}
+
+// The greatest, the last of equals, in two selections.
+pub fn ahead(r: Race, k: usize, v: f64) -> Race
+    ensures { λ q. ⌜ q ≡ raced above atLeast k v r ⌝ }
+{
+    Race {
+        value: value_of(v > r.value, v, r.value),
+        at: place_of(v >= r.value, k, r.at),
+    }
+}
+
+// The least, the last of equals, likewise.
+pub fn behind(r: Race, k: usize, v: f64) -> Race
+    ensures { λ q. ⌜ q ≡ raced below atMost k v r ⌝ }
+{
+    Race {
+        value: value_of(v < r.value, v, r.value),
+        at: place_of(v <= r.value, k, r.at),
     }
 }

@@ -1,14 +1,15 @@
--- What the loop over the second asks of a lead, read once.
+-- What the loop over the second asks of a lead, read once; and that loop as a race, proved to lead to `second` (proofs/Steps.antt).
 use Prim.Native.Nat.{ℕ, zero, suc, _+_, _*_}
 use mathlib.Core.Bool.{true, false, _&&_, Bool·beq, cond}
 use lib.Dec.{eqb}
 use lib.Ieee.{Float, nan, inf, lt}
 use lib.ListN.{getD}
 use Rattle.alpha.specs.Weight.{zero as nought}
-use Rattle.extreme.specs.Best.{nobody, atMost, weighed}
-use Rattle.extreme.specs.declared.Extreme.{Extreme}
+use Rattle.extreme.specs.Best.{atMost}
+use Rattle.extreme.specs.Racing.{racing, below, raced}
 use Rattle.extreme.specs.declared.Found.{Found}
 use Rattle.extreme.specs.declared.Found.the-variants.{At, Nobody}
+use Rattle.extreme.specs.declared.Race.{Race}
 use Rattle.kernel.specs.Row.{kernelIndex, reachOf}
 use Rattle.state.specs.Lists.{Problem, State}
 use Rattle.state.specs.Fields.{diagonal, positive}
@@ -31,13 +32,16 @@ curveOf p s floor l j =
     (reachOf (p .kind) (p .side) (p .matrix) (l .index) (l .label) (p .n) (s .numbers) (s .labels) j)
     (Bool·beq (eqb (l .label) 1) (positive s j))
 
--- position j weighed after its lead l
-unfoldable pub weighedAfter : Problem → State → Float → Lead → ℕ → Extreme → Extreme
-weighedAfter p s floor l j e =
-    let d = gap p s (l .top) j in
-    weighed atMost (l .found && (mayFall p s j && lt nought d)) j (gain d (curveOf p s floor l j)) e
+-- what the pair of the lead l and position j would gain
+abbrev pub gainAfter : Problem → State → Float → Lead → ℕ → Float
+gainAfter p s floor l j = gain (gap p s (l .top) j) (curveOf p s floor l j)
 
--- the first positions weighed after the lead l of the positives and k of the negatives
-unfoldable pub allAfter : Problem → State → Float → Lead → Lead → ℕ → Extreme
-allAfter p s floor l k zero = nobody (inf false)
-allAfter p s floor l k (suc j) = weighedAfter p s floor (cond (positive s j) l k) j (allAfter p s floor l k j)
+-- position j raced after its lead l
+unfoldable pub racedAfter : Problem → State → Float → Lead → ℕ → Race → Race
+racedAfter p s floor l j r =
+    cond (l .found && (mayFall p s j && lt nought (gap p s (l .top) j))) (raced below atMost j (gainAfter p s floor l j) r) r
+
+-- the first positions raced after the lead l of the positives and k of the negatives; a place of a stands for nobody
+unfoldable pub racedTo : Problem → State → Float → ℕ → Lead → Lead → ℕ → Race
+racedTo p s floor a l k zero = racing (inf false) a
+racedTo p s floor a l k (suc j) = racedAfter p s floor (cond (positive s j) l k) j (racedTo p s floor a l k j)

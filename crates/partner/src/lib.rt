@@ -5,17 +5,18 @@ ghost use mathlib.Core.Path.{_≡_};
 ghost use Prim.Native.Nat.{_+_, _*_, _≤_, _<_};
 ghost use lib.Dec.{eqb};
 ghost use lib.ListN.{length, getD};
-ghost use Rattle.extreme.specs.Best.{Below};
+ghost use Rattle.extreme.specs.Best.{Below, nobody as nobodyAt};
 ghost use Rattle.kernel.specs.Row.{Indexed};
 ghost use Rattle.state.specs.Lists.{problem, state, Ready};
 ghost use Rattle.partner.specs.Sides.{risesOf, fallsOf, riseOf, fallOf};
 ghost use Rattle.partner.specs.Curvature.{curvature, gapOf, gain};
 ghost use Rattle.partner.specs.Second.{leads, second, paired, choice};
-ghost use Rattle.partner.specs.Lead.{leadAt, curveOf, weighedAfter};
+ghost use Rattle.partner.specs.Lead.{leadAt, curveOf, gainAfter, racedAfter, racedTo};
 use alpha::Alpha;
 use extreme::Choice;
 use extreme::Extreme;
 use extreme::Found;
+use extreme::Race;
 use kernel::Kind;
 
 pub fn may_rise(pos: bool, w: Alpha) -> bool
@@ -100,6 +101,21 @@ fn lead_of(f: &[f64], u: &[u64], y: &[u8], n: usize, side: usize, e: Extreme) ->
     }
 }
 
+fn own(pos: bool, p: Lead, q: Lead) -> Lead
+    ensures { λ r. ⌜ r ≡ cond pos p q ⌝ }
+{
+    if pos { p } else { q }
+}
+
+fn nobody(v: f64) -> Extreme
+    ensures { λ r. ⌜ r ≡ nobodyAt v ⌝ }
+{
+    Extreme {
+        value: v,
+        holder: Found::Nobody,
+    }
+}
+
 // The curvature of the lead l and position j.
 fn curve_at(
     f: &[f64],
@@ -128,8 +144,8 @@ fn curve_at(
     )
 }
 
-// Position j weighed after its lead l.
-fn weighed_after(
+// Position j raced after its lead l.
+fn raced_after(
     f: &[f64],
     u: &[u64],
     y: &[u8],
@@ -140,24 +156,24 @@ fn weighed_after(
     floor: f64,
     l: Lead,
     j: usize,
-    e: Extreme,
-) -> Extreme
+    e: Race,
+) -> Race
     requires { ⌜ (Ready (problem n side kind (now m)) (state (now f) (now u) (now y))) × (j < n) × (l .index < side) ⌝ }
-    ensures { λ r. ⌜ r ≡ weighedAfter (problem n side kind (now (m .entry)))
+    ensures { λ r. ⌜ r ≡ racedAfter (problem n side kind (now (m .entry)))
         (state (now (f .entry)) (now (u .entry)) (now (y .entry))) floor l j e ⌝ }
 {
     let pos = y[j] == 1;
     let d = gap_of(pos, l.top, f[j]);
     if l.found & (may_fall(pos, state::alpha_at(f, n, j)) & (d > 0.0)) {
         let q = curve_at(f, u, y, n, side, kind, m, floor, l, j);
-        extreme::lowered(e, true, j, gain_of(d, q))
+        extreme::behind(e, j, gain_of(d, q))
     } else {
-        extreme::anew(e)
+        e
     }
 }
 
-// Position j weighed after the lead of its label: lp of the positives, lq of the negatives.
-fn weighed_by_label(
+// Position j raced after the lead of its label: lp of the positives, lq of the negatives.
+fn raced_by_label(
     f: &[f64],
     u: &[u64],
     y: &[u8],
@@ -169,17 +185,67 @@ fn weighed_by_label(
     lp: Lead,
     lq: Lead,
     j: usize,
-    e: Extreme,
-) -> Extreme
+    e: Race,
+) -> Race
     requires { ⌜ (Ready (problem n side kind (now m)) (state (now f) (now u) (now y))) × (j < n) × (lp .index < side) × (lq .index < side) ⌝ }
-    ensures { λ r. ⌜ r ≡ weighedAfter (problem n side kind (now (m .entry)))
+    ensures { λ r. ⌜ r ≡ racedAfter (problem n side kind (now (m .entry)))
         (state (now (f .entry)) (now (u .entry)) (now (y .entry))) floor (cond (eqb (getD (now (y .entry)) j 0) 1) lp lq) j e ⌝ }
 {
     if y[j] == 1 {
-        weighed_after(f, u, y, n, side, kind, m, floor, lp, j, e)
+        raced_after(f, u, y, n, side, kind, m, floor, lp, j, e)
     } else {
-        weighed_after(f, u, y, n, side, kind, m, floor, lq, j, e)
+        raced_after(f, u, y, n, side, kind, m, floor, lq, j, e)
     }
+}
+
+// What the pair of position j and the lead of its label would gain.
+fn gain_by_label(
+    f: &[f64],
+    u: &[u64],
+    y: &[u8],
+    n: usize,
+    side: usize,
+    kind: Kind,
+    m: &[u8],
+    floor: f64,
+    lp: Lead,
+    lq: Lead,
+    j: usize,
+) -> f64
+    requires { ⌜ (Ready (problem n side kind (now m)) (state (now f) (now u) (now y))) × (j < n) × (lp .index < side) × (lq .index < side) ⌝ }
+    ensures { λ r. ⌜ r ≡ gainAfter (problem n side kind (now (m .entry)))
+        (state (now (f .entry)) (now (u .entry)) (now (y .entry))) floor (cond (eqb (getD (now (y .entry)) j 0) 1) lp lq) j ⌝ }
+{
+    let l = own(y[j] == 1, lp, lq);
+    let d = gap_of(y[j] == 1, l.top, f[j]);
+    gain_of(d, curve_at(f, u, y, n, side, kind, m, floor, l, j))
+}
+
+fn race(
+    f: &[f64],
+    u: &[u64],
+    y: &[u8],
+    n: usize,
+    side: usize,
+    kind: Kind,
+    m: &[u8],
+    floor: f64,
+    lp: Lead,
+    lq: Lead,
+    active: usize,
+) -> usize
+    requires { ⌜ (Ready (problem n side kind (now m)) (state (now f) (now u) (now y))) × (active ≤ n) × (lp .index < side) × (lq .index < side) ⌝ }
+    ensures { λ r. ⌜ r ≡ racedTo (problem n side kind (now (m .entry)))
+        (state (now (f .entry)) (now (u .entry)) (now (y .entry))) floor active lp lq active .at ⌝ }
+{
+    let mut e = Race {
+        value: 1.0 / 0.0,
+        at: active,
+    };
+    for j in 0..active {
+        e = raced_by_label(f, u, y, n, side, kind, m, floor, lp, lq, j, e);
+    }
+    e.at
 }
 
 // The least gain after the leads p, of the positives, and q, of the negatives.
@@ -201,16 +267,20 @@ pub fn partner(
     ensures { λ r. ⌜ r ≡ second (problem n side kind (now (m .entry)))
         (state (now (f .entry)) (now (u .entry)) (now (y .entry))) floor (leads p q) active ⌝ }
 {
+    if active == 0 {
+        return nobody(1.0 / 0.0);
+    }
     let lp = lead_of(f, u, y, n, side, p);
     let lq = lead_of(f, u, y, n, side, q);
-    let mut e = Extreme {
-        value: 1.0 / 0.0,
-        holder: Found::Nobody,
-    };
-    for j in 0..active {
-        e = weighed_by_label(f, u, y, n, side, kind, m, floor, lp, lq, j, e);
+    let at = race(f, u, y, n, side, kind, m, floor, lp, lq, active);
+    if at < active {
+        let v = gain_by_label(f, u, y, n, side, kind, m, floor, lp, lq, at);
+        return Extreme {
+            value: v,
+            holder: Found::At(at),
+        };
     }
-    e
+    nobody(1.0 / 0.0)
 }
 
 fn holder_of(pos: bool, p: Extreme, q: Extreme) -> Found
