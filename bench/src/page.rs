@@ -289,7 +289,7 @@ const TIMED: &str = "\
 - LIBSVM: `svm_train` with a precomputed kernel and 400 MB for its rows; the matrix is brought into its form beforehand.
 - scikit-learn: its inner `_libsvm.fit` with a precomputed kernel, timed within Python.
 
-All have eps 0.001, run on one thread and are built for any x86-64 (SSE2).
+All have eps 0.001, run on one thread and are built for any machine of this kind, by no option for its processor.
 ";
 
 const DRAWN: &str = "\

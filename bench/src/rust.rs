@@ -23,7 +23,7 @@ impl Rust {
         Rust {
             task,
             shrinking,
-            kernel: Kernel::lent(given.n, given.matrix.clone()),
+            kernel: Kernel::given(given.n, given.matrix.clone()),
             labels: given.labels.iter().map(|y| *y == 1).collect(),
             samples: (0..given.n).map(|k| k as f64).collect(),
             svm: None,

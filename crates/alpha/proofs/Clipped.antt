@@ -1,8 +1,8 @@
 -- A clipped weight lies in 0..ceiling. Assumes nothing.
-use mathlib.Core.Bool.{Bool, true, false, not, cond}
-use mathlib.Core.Path.{_≡_, refl, sym, subst}
-use lib.Dec.{T, not-T}
-use lib.Ieee.{Float, ofBits, lt}
+use mathlib.Core.Bool.{Bool, true, false, cond}
+use mathlib.Core.Path.{_≡_, refl}
+use lib.Dec.{not-T}
+use lib.Ieee.{ofBits, lt}
 use lib.Ieee.Bits.{is-false}
 use Rattle.rounding.proofs.Order.{lt-irrefl}
 use Rattle.alpha.specs.Weight.{zero, weight, clip}

@@ -7,7 +7,6 @@ use lib.Ieee.{Float, nan, binary64, toBits, neg, mul, div, ne}
 use lib.ListN.{getD, set}
 use Rattle.alpha.specs.Weight as Weight
 use Rattle.rho.specs.declared.Level.{Level}
-use Rattle.answer.specs.declared.Answer.{Answer}
 use Rattle.answer.specs.declared.ExitReason.{ExitReason}
 use Rattle.answer.specs.declared.ExitReason.the-variants.{ReachedThreshold, ReachedIterations}
 use Rattle.answer.specs.declared.Finish.{Finish}

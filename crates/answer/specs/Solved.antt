@@ -9,12 +9,11 @@ use Rattle.rho.specs.declared.Level.{Level}
 use Rattle.solver.specs.End.{objectiveOf, trained}
 use Rattle.solver.specs.Run.{Full}
 use Rattle.solver.specs.declared.Given.{Given}
-use Rattle.solver.specs.declared.Run.{Run}
 use Rattle.solver.specs.declared.Status.{Status}
 use Rattle.solver.specs.declared.Status.the-variants as Status
 use Rattle.state.specs.Lists.{State, state}
 use Rattle.answer.specs.Answer.{finishedTo, supportOf, rhoOf, objOf, ratioOf, reasonOf}
-use Rattle.answer.specs.Lent.{Lent, lent, Whole, whole, cleared}
+use Rattle.answer.specs.Lent.{Lent, Whole, whole, cleared}
 use Rattle.answer.specs.declared.Answer.{Answer}
 use Rattle.answer.specs.declared.Finish.{Finish}
 use Rattle.answer.specs.declared.Outcome.{Outcome}

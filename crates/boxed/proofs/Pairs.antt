@@ -19,8 +19,6 @@ use Rattle.partner.specs.Sides.{riseOf}
 use Rattle.rounding.specs.Units.{Real}
 use Rattle.state.specs.Fields.{gradient, alpha, diagonal, row, positive, bound}
 use Rattle.state.specs.Lists.{Problem, State}
-use Rattle.kernel.specs.Curvature.{curved}
-use Rattle.update.specs.Pair.{floored, stepOf}
 use Rattle.update.specs.Update.{pairAt}
 use Rattle.boxed.specs.Delta.{deltaAt}
 use Rattle.boxed.specs.Range.{Ceiling, Held, BothHeld, Entry, Divides, Chosen}

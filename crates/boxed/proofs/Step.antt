@@ -1,9 +1,8 @@
 -- The step of a chosen pair is no NaN. Assumes nothing.
-use mathlib.Core.Path.{_≡_, refl}
 use mathlib.Core.Logic.{inl, inr}
 use mathlib.Core.Bool.{Bool, true, false, not, cond}
 use lib.Dec.{T, lit<}
-use lib.Ieee.{Float, nan, inf, fin, binary64, neg, add, sub, mul, lt, le}
+use lib.Ieee.{Float, binary64, neg, add, sub, mul, lt, le}
 use lib.Ieee.Fits.{add-fits}
 use lib.Ieee.Scale.{finite}
 use Rattle.alpha.specs.Weight.{zero, two, limit}

@@ -1,29 +1,21 @@
 -- The races lead to the extremes. Assumes nothing.
 use Prim.Native.Nat.{ℕ, zero, suc, _<_}
 use mathlib.Core.Bool.{Bool, true, false, not, cond}
-use mathlib.Core.Path.{_≡_, refl, ap, ap₂, _∙_}
+use mathlib.Core.Path.{_≡_, refl, ap, _∙_}
 use lib.Dec.{T}
 use lib.Ieee.{Float, inf, neg, lt}
 use Rattle.alpha.specs.Weight.{atUpper, atLower}
 use Rattle.alpha.specs.declared.Alpha.{Alpha}
 use Rattle.extreme.specs.Best.{held, above, atLeast, best}
 use Rattle.extreme.specs.Racing.{raced}
-use Rattle.extreme.specs.declared.Extreme.{Extreme}
-use Rattle.extreme.specs.declared.Found.{Found}
-use Rattle.extreme.specs.declared.Found.the-variants.{At}
-use Rattle.extreme.specs.declared.Race.{Race}
 use Rattle.extreme.proofs.Racing.{greatest-halves, Leads, leads-start, leads-weighed}
-use Rattle.extreme.proofs.Rule.{Rule}
+use Rattle.extreme.proofs.Rule.{extreme-is}
 use Rattle.partner.specs.Sides.{mayRise, mayFall, rise, fall}
 use Rattle.state.specs.Lists.{Problem, State}
 use Rattle.choose_c.specs.Choice.{extremesC}
 use Rattle.choose_c.specs.Raced.{racedC, racesTo}
-use Rattle.choose_c.specs.declared.Pairing.{Pairing}
+use Rattle.choose_c.specs.declared.TwoRaces.{TwoRaces}
 use Rattle.choose_c.proofs.Rule.{gmax1-rule, gmax2-rule}
-
--- an extreme by its value and holder
-extreme-is : (e : Extreme) (v : Float) (h : Found) → e .value ≡ v → e .holder ≡ h → e ≡ record { value = v; holder = h }
-extreme-is e v h = ap₂ (λ (x : Float) (y : Found). record { value = x; holder = y })
 
 module _ (p : Problem) (s : State) where
   rises : (k : ℕ) → Leads greatest-halves (racesTo (p .n) s k .rise) (extremesC p s k .gmax1)
@@ -57,7 +49,7 @@ out-in : (b : Bool) (v : Float) → cond b (inf true) v ≡ cond (not b) v (inf 
 out-in true v = refl
 out-in false v = refl
 
-module _ (e : Pairing) (k : ℕ) (g : Float) (w : Alpha) (u l : Bool) (up low : Float) (is-u : u ≡ atUpper w) (is-l : l ≡ atLower w) (is-up : up ≡ cond u (inf true) (neg g))
+module _ (e : TwoRaces) (k : ℕ) (g : Float) (w : Alpha) (u l : Bool) (up low : Float) (is-u : u ≡ atUpper w) (is-l : l ≡ atLower w) (is-up : up ≡ cond u (inf true) (neg g))
     (is-low : low ≡ cond l (inf true) g) where
   u-is : up ≡ cond (not (atUpper w)) (neg g) (inf true)
   u-is = is-up ∙ ap (λ (b : Bool). cond b (inf true) (neg g)) is-u ∙ out-in (atUpper w) (neg g)

@@ -9,10 +9,10 @@ use Rattle.extreme.specs.Racing.{racing, raced}
 use Rattle.partner.specs.Sides.{risesOf, fallsOf, riseOf, fallOf}
 use Rattle.state.specs.Fields.{alphaIn, positive}
 use Rattle.state.specs.Lists.{State}
-use Rattle.choose_c.specs.declared.Pairing.{Pairing}
+use Rattle.choose_c.specs.declared.TwoRaces.{TwoRaces}
 
 -- who may not take part runs with minus infinity
-abbrev pub racedC : Pairing → ℕ → Bool → Float → Alpha → Pairing
+abbrev pub racedC : TwoRaces → ℕ → Bool → Float → Alpha → TwoRaces
 racedC e k pos g w =
     record {
       rise = raced above atLeast k (cond (risesOf pos w) (riseOf pos g) (inf true)) (e .rise);
@@ -20,6 +20,6 @@ racedC e k pos g w =
     }
 
 -- over the first positions of n
-unfoldable pub racesTo : ℕ → State → ℕ → Pairing
+unfoldable pub racesTo : ℕ → State → ℕ → TwoRaces
 racesTo n s zero = record { rise = racing (inf true) 0; fall = racing (inf true) 0 }
 racesTo n s (suc k) = racedC (racesTo n s k) k (positive s k) (getD (s .floats) k nan) (alphaIn n (s .floats) k)

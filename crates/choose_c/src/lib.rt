@@ -23,7 +23,7 @@ pub struct Extremes {
     pub gmax2: Extreme,
 }
 
-struct Pairing {
+struct TwoRaces {
     rise: Race,
     fall: Race,
 }
@@ -77,7 +77,7 @@ fn bounded(out: bool, v: f64) -> f64
 }
 
 // One more position raced.
-fn raced(e: Pairing, k: usize, pos: bool, g: f64, w: Alpha) -> Pairing
+fn raced(e: TwoRaces, k: usize, pos: bool, g: f64, w: Alpha) -> TwoRaces
     ensures { λ r. ⌜ r ≡ racedC e k pos g w ⌝ }
 {
     let p = e.rise;
@@ -85,12 +85,12 @@ fn raced(e: Pairing, k: usize, pos: bool, g: f64, w: Alpha) -> Pairing
     let up = bounded(w.reached_upper(), -g);
     let low = bounded(w.reached_lower(), g);
     if pos {
-        Pairing {
+        TwoRaces {
             rise: extreme::ahead(p, k, up),
             fall: extreme::ahead(q, k, low),
         }
     } else {
-        Pairing {
+        TwoRaces {
             rise: extreme::ahead(p, k, low),
             fall: extreme::ahead(q, k, up),
         }
@@ -106,7 +106,7 @@ fn races(
     kind: Kind,
     m: &[u8],
     active: usize,
-) -> Pairing
+) -> TwoRaces
     requires { ⌜ (Ready (problem n side kind (now m)) (state (now f) (now u) (now y))) × (active ≤ n) ⌝ }
     ensures { λ r. ⌜ r ≡ racesTo n (state (now (f .entry)) (now (u .entry)) (now (y .entry))) active ⌝ }
 {
@@ -114,7 +114,7 @@ fn races(
         value: -1.0 / 0.0,
         at: 0,
     };
-    let mut e = Pairing {
+    let mut e = TwoRaces {
         rise: none,
         fall: none,
     };

@@ -22,7 +22,7 @@ use Rattle.kernel.specs.declared.Kind.{Kind}
 use Rattle.rounding.proofs.Order.{both}
 use Rattle.solver.specs.Run.{problemOf}
 use Rattle.solver.specs.declared.Given.{Given}
-use Rattle.state.specs.Lists.{State, state, Ready}
+use Rattle.state.specs.Lists.{State, Ready}
 use Rattle.travel.specs.Travel.{Paired}
 use Rattle.classification.specs.Entries.{givenOf, scratchOf, fitted}
 

@@ -3,7 +3,7 @@ use Prim.Native.Nat.{ℕ}
 use mathlib.Core.Bool.{Bool, true, false, _&&_, cond}
 use mathlib.Core.List.{List}
 use lib.Dec.{eqb}
-use lib.Ieee.{Float, neg}
+use lib.Ieee.{Float}
 use lib.ListN.{length}
 use Rattle.alpha.specs.Weight as Weight
 use Rattle.alpha.specs.Weight.{one, minusOne}
@@ -11,8 +11,7 @@ use Rattle.answer.specs.Lent.{Lent, lent, Whole, untouched}
 use Rattle.answer.specs.Solved.{solved}
 use Rattle.answer.specs.declared.Finish.{Finish}
 use Rattle.answer.specs.declared.Finish.the-variants.{Plain, Signed, Scaled}
-use Rattle.answer.specs.declared.Outcome.{Outcome}
-use Rattle.answer.specs.declared.Outcome.the-variants.{Accepted, Refused}
+use Rattle.answer.specs.declared.Outcome.the-variants.{Refused}
 use Rattle.fits.specs.Load.{loaded}
 use Rattle.fits.specs.Starts.{nothing, evenly, allPositive, costsTo, half, sharedTo, oneClassTo}
 use Rattle.judge.specs.Judge.{generalJudged, cJudged, nuJudged, oneClassJudged}

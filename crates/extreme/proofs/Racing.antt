@@ -1,17 +1,16 @@
 -- A race ends where the best does: its value is the best's but for the sign of a zero, its place is the holder. Assumes nothing.
-use Prim.Native.Nat.{ℕ, zero, suc, _<_}
-use mathlib.Core.Bool.{Bool, true, false, not, _&&_, cond}
-use mathlib.Core.Path.{_≡_, refl, sym, ap, _∙_, subst}
+use Prim.Native.Nat.{ℕ, _<_}
+use mathlib.Core.Bool.{Bool, true, false, not, cond}
+use mathlib.Core.Path.{_≡_, refl, sym}
 use native.Mathlib.Omega.{arith}
 use borrow.Author.Tests.{lt-ltb}
 use lib.Dec.{T, T-not, ltb, ltb→lt}
-use lib.Ieee.{Float, inf, isNan, lt, le}
+use lib.Ieee.{Float, inf, isNan, lt}
 use Rattle.rounding.specs.Units.{Real}
 use Rattle.rounding.proofs.Order.{holds, fails, le-real, lt-real, lt→le, le-refl, le-trans, not-lt, least, greatest}
 use Rattle.extreme.specs.Best.{nobody, held, atLeast, above, atMost, weighed}
 use Rattle.extreme.specs.Racing.{racing, below, raced, foundIn}
 use Rattle.extreme.specs.declared.Extreme.{Extreme}
-use Rattle.extreme.specs.declared.Found.{Found}
 use Rattle.extreme.specs.declared.Found.the-variants.{At, Nobody}
 use Rattle.extreme.specs.declared.Race.{Race}
 

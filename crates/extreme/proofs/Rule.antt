@@ -2,7 +2,7 @@
 use Prim.Native.Nat.{ℕ, zero, suc, _<_, suc-le-suc, zero-le}
 use mathlib.Core.Bool.{Bool, true, false, not, _&&_, cond}
 use mathlib.Core.Logic.{_⊎_, inl, inr, ⊎-elim, _↔_}
-use mathlib.Core.Path.{_≡_, refl, sym, subst}
+use mathlib.Core.Path.{_≡_, refl, sym, subst, ap₂}
 use native.Mathlib.Omega.{arith}
 use lib.Dec.{T, T-not}
 use lib.Ieee.{Float}
@@ -10,6 +10,10 @@ use Rattle.extreme.specs.Best.{held, weighed, best, Below}
 use Rattle.extreme.specs.declared.Extreme.{Extreme}
 use Rattle.extreme.specs.declared.Found.{Found}
 use Rattle.extreme.specs.declared.Found.the-variants.{At, Nobody}
+
+-- an extreme by its value and holder
+pub extreme-is : (e : Extreme) (v : Float) (h : Found) → e .value ≡ v → e .holder ≡ h → e ≡ record { value = v; holder = h }
+extreme-is e v h = ap₂ (λ (x : Float) (y : Found). record { value = x; holder = y })
 
 -- the rule of an extreme e: what its holder satisfies, and exactly when it has none
 pub record Rule (start : Float) (value : ℕ → Float) (Holds : ℕ → Type 0) (None : Type 0) (e : Extreme) : Type 0 where

@@ -2,7 +2,7 @@
 use Prim.Native.Nat.{ℕ}
 use mathlib.Core.Bool.{Bool, cond}
 use lib.Dec.{ltb}
-use lib.Ieee.{Float, lt, le}
+use lib.Ieee.{Float, lt}
 use Rattle.extreme.specs.declared.Found.{Found}
 use Rattle.extreme.specs.declared.Found.the-variants.{At, Nobody}
 use Rattle.extreme.specs.declared.Race.{Race}

@@ -10,7 +10,7 @@ use lib.Seq.{getD-set-same, getD-set-other}
 use Rattle.kernel.specs.Matrix.{Matrix}
 use Rattle.kernel.specs.Row.{kernelIndex}
 use Rattle.kernel.specs.declared.Kind.{Kind}
-use Rattle.state.specs.Lists.{problem, State, state, Ready}
+use Rattle.state.specs.Lists.{problem, State, Ready}
 use Rattle.travel.specs.Travel.{Paired}
 use Rattle.fits.specs.Load.{loadedFloats, loadedNumbers, loadedLabels, loaded}
 

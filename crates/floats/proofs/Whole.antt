@@ -1,5 +1,5 @@
 -- The whole part at the ends of its range. Assumes nothing.
-use Prim.Native.Nat.{ℕ, _+_, _-_, _*_, _/_, _^_, _≤_, _<_, min}
+use Prim.Native.Nat.{ℕ, _+_, _*_, _/_, _^_, _≤_, _<_}
 use mathlib.Core.Bool.{true, false}
 use mathlib.Core.Path.{_≡_, refl, sym, subst}
 use native.Mathlib.Nat.{mul-one, mul-pos, le-div-iff-mul-le, min-eq-right}

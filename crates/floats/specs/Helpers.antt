@@ -1,6 +1,6 @@
 -- The helpers that the Rust takes from its float type (the rule, section 'Helpers').
 use Prim.Native.Nat.{ℕ}
-use mathlib.Core.Bool.{true, false, cond}
+use mathlib.Core.Bool.{false, cond}
 use lib.IntN.{pos}
 use lib.Ieee.{Float, nan, inf, fin, binary64, isNan, lt, mul, ofInt, toUnsigned}
 

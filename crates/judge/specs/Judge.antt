@@ -4,7 +4,7 @@ use mathlib.Core.Bool.{Bool, true, false, not, _&&_, cond}
 use mathlib.Core.List.{List}
 use lib.Dec.{ltb, leb}
 use lib.ListN.{getD}
-use lib.Ieee.{Float, nan, binary64, ofBits, neg, lt, le}
+use lib.Ieee.{Float, nan, neg, lt, le}
 use lib.Ieee.Scale.{finite}
 use Rattle.alpha.specs.Weight.{limit, zero as nought, one}
 use Rattle.rounding.specs.Units.{negative}

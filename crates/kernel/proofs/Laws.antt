@@ -1,16 +1,19 @@
 -- Laws of a row, for callers. Assumes nothing.
 use Prim.Native.Nat.{ℕ, zero, suc, _+_, _*_, _≤_, _<_}
-use mathlib.Core.Bool.{true}
+use mathlib.Core.Bool.{Bool, true, false, Bool·beq}
 use mathlib.Core.List.{List}
-use mathlib.Core.Path.{_≡_, refl, sym, ap, _∙_}
+use mathlib.Core.Path.{_≡_, refl, ap, _∙_}
 use mathlib.Core.Logic.{inl, inr}
 use native.Mathlib.Nat.{eq-or-lt-of-le, le-of-suc-le-suc}
 use native.Mathlib.Omega.{arith}
 use borrow.Author.Tests.{eq-eqb}
-use lib.Dec.{eqb}
-use lib.Ieee.{Float, nan, neg}
-use lib.ListN.{length, getD, set, length-set}
+use lib.Ieee.{Float, nan, binary64, neg, add, sub, mul}
+use lib.ListN.{length, getD, length-set}
 use lib.Seq.{getD-set-same, getD-set-other}
+use Rattle.alpha.specs.Weight.{two}
+use Rattle.rounding.proofs.Order.{neg-neg}
+use Rattle.rounding.proofs.Products.{mul-neg-right}
+use Rattle.kernel.specs.Curvature.{curved}
 use Rattle.kernel.specs.Matrix.{entryAt}
 use Rattle.kernel.specs.Row.{kernelIndex, alikeOf, signedOf, rowAt, rowTo}
 use Rattle.kernel.specs.declared.Kind.{Kind}
@@ -46,3 +49,15 @@ module _ (kind : Kind) (side : ℕ) (m : List ℕ) (n : ℕ) (u y : List ℕ) (i
     unfolding rowTo
     rowTo-other zero q h = refl
     rowTo-other (suc k) q h = getD-set-other (rowTo kind side m n u y i f k) (6 * n + k) q (rowAt kind side m n u y i k) nan (h k (omega arith)) ∙ rowTo-other k q (λ p g. h p (omega arith))
+
+-- ---- the sign of an entry goes through its curvature
+
+-- a negated entry is taken away where it would be added, and added where it would be taken away, bit for bit
+pub curved-signed : (agree alike : Bool) (di dj x : Float) → curved agree di dj (signedOf alike x) ≡ curved (Bool·beq agree alike) di dj x
+unfolding curved sub
+curved-signed true true di dj x = refl
+curved-signed false true di dj x = refl
+curved-signed true false di dj x =
+    let t = mul binary64 two x in
+    ap (add binary64 (add binary64 di dj)) (ap neg (mul-neg-right binary64 two x) ∙ neg-neg t)
+curved-signed false false di dj x = ap (add binary64 (add binary64 di dj)) (mul-neg-right binary64 two x)

@@ -18,12 +18,12 @@ use Rattle.partner.specs.Second.{gap}
 use Rattle.partner.specs.Sides.{mayFall}
 use Rattle.partner.specs.declared.Lead.{Lead}
 
--- of n positions, the lead with value v and holder h
+-- of n positions, the lead with value v and holder h; nobody follows a top of minus infinity
 abbrev pub leadAt : ℕ → State → Float → Found → Lead
 leadAt n s v (At i) =
     let c = kernelIndex n (s .numbers) i in
-    record { found = true; top = v; index = c; label = getD (s .labels) i 0; diagonal = getD (s .floats) (5 * n + c) nan }
-leadAt n s v Nobody = record { found = false; top = v; index = 0; label = 0; diagonal = nought }
+    record { top = v; index = c; label = getD (s .labels) i 0; diagonal = getD (s .floats) (5 * n + c) nan }
+leadAt n s v Nobody = record { top = inf true; index = 0; label = 0; diagonal = nought }
 
 -- the curvature of the lead l and position j
 abbrev pub curveOf : Problem → State → Float → Lead → ℕ → Float
@@ -39,7 +39,7 @@ gainAfter p s floor l j = gain (gap p s (l .top) j) (curveOf p s floor l j)
 -- position j raced after its lead l
 unfoldable pub racedAfter : Problem → State → Float → Lead → ℕ → Race → Race
 racedAfter p s floor l j r =
-    cond (l .found && (mayFall p s j && lt nought (gap p s (l .top) j))) (raced below atMost j (gainAfter p s floor l j) r) r
+    cond (mayFall p s j && lt nought (gap p s (l .top) j)) (raced below atMost j (gainAfter p s floor l j) r) r
 
 -- the first positions raced after the lead l of the positives and k of the negatives; a place of a stands for nobody
 unfoldable pub racedTo : Problem → State → Float → ℕ → Lead → Lead → ℕ → Race

@@ -66,9 +66,8 @@ fn gain_of(d: f64, q: f64) -> f64
     -(d * d) / q
 }
 
-// What the loop over the second asks of a lead.
+// What the loop over the second asks of a lead. A lead that nobody holds has its top at minus infinity, so that nobody follows it.
 struct Lead {
-    found: bool,
     top: f64,
     index: usize,
     label: u8,
@@ -84,7 +83,6 @@ fn lead_of(f: &[f64], u: &[u64], y: &[u8], n: usize, side: usize, e: Extreme) ->
         Found::At(i) => {
             let c = kernel::index_at(u, side, n, i);
             Lead {
-                found: true,
                 top: e.value,
                 index: c,
                 label: y[i],
@@ -92,8 +90,7 @@ fn lead_of(f: &[f64], u: &[u64], y: &[u8], n: usize, side: usize, e: Extreme) ->
             }
         }
         Found::Nobody => Lead {
-            found: false,
-            top: e.value,
+            top: -1.0 / 0.0,
             index: 0,
             label: 0,
             diagonal: 0.0,
@@ -116,7 +113,7 @@ fn nobody(v: f64) -> Extreme
     }
 }
 
-// The curvature of the lead l and position j.
+// The curvature of the lead l and position j. The entry is not negated where the labels differ: what is added is subtracted.
 fn curve_at(
     f: &[f64],
     u: &[u64],
@@ -133,15 +130,11 @@ fn curve_at(
     ensures { λ r. ⌜ r ≡ curveOf (problem n side kind (now (m .entry)))
         (state (now (f .entry)) (now (u .entry)) (now (y .entry))) floor l j ⌝ }
 {
-    let r = kernel::reach(kind, m, side, l.index, l.label, u, n, y, j);
     let c = kernel::index_at(u, side, n, j);
-    curvature_of(
-        floor,
-        l.diagonal,
-        f[5 * n + c],
-        r,
-        (l.label == 1) == (y[j] == 1),
-    )
+    let x = kernel::entry(m, side, l.index, c);
+    let agree = (l.label == 1) == (y[j] == 1);
+    let alike = kernel::alike(kind, l.label, y[j]);
+    curvature_of(floor, l.diagonal, f[5 * n + c], x, agree == alike)
 }
 
 // Position j raced after its lead l.
@@ -163,8 +156,11 @@ fn raced_after(
         (state (now (f .entry)) (now (u .entry)) (now (y .entry))) floor l j e ⌝ }
 {
     let pos = y[j] == 1;
+    if !may_fall(pos, state::alpha_at(f, n, j)) {
+        return e;
+    }
     let d = gap_of(pos, l.top, f[j]);
-    if l.found & (may_fall(pos, state::alpha_at(f, n, j)) & (d > 0.0)) {
+    if d > 0.0 {
         let q = curve_at(f, u, y, n, side, kind, m, floor, l, j);
         extreme::behind(e, j, gain_of(d, q))
     } else {

@@ -1,16 +1,16 @@
 -- The box, of an entry: with one common ceiling b every weight lies in 0..b after each pass of its run, and no step is NaN. Assumes nothing.
-use Prim.Native.Nat.{ℕ, zero, suc, _+_, _*_, _≤_, _<_}
+use Prim.Native.Nat.{ℕ, zero, _*_, _≤_, _<_}
 use mathlib.Core.Bool.{true}
 use mathlib.Core.List.{List}
-use mathlib.Core.Path.{_≡_, refl, sym, subst, ap, _∙_}
+use mathlib.Core.Path.{_≡_, sym, _∙_}
 use native.Mathlib.Omega.{arith}
 use lib.Dec.{T}
-use lib.Ieee.{Float, nan, binary64, fits, le, lt}
+use lib.Ieee.{Float, nan, binary64, fits, le}
 use lib.Ieee.Bits.{ofBits-fits}
-use lib.ListN.{length, getD}
+use lib.ListN.{getD}
 use Rattle.alpha.specs.Weight as Weight
 use Rattle.answer.specs.Lent.{Lent, Whole}
-use Rattle.boxed.specs.Range.{Ceiling, In, Held, Entry, Divides}
+use Rattle.boxed.specs.Range.{Ceiling, In, Entry, Divides}
 use Rattle.boxrun.specs.Boxed as Boxed
 use Rattle.boxrun.specs.Boxed.{OneCeiling}
 use Rattle.boxrun.proofs.Run.{box-weights, box-trained, no-nan-runs}

@@ -6,9 +6,9 @@ use mathlib.Core.List.{List}
 use mathlib.Core.Path.{_≡_, refl, _∙_}
 use native.Mathlib.Omega.{arith}
 use lib.Dec.{T, eqb}
-use lib.Ieee.{Float, nan, binary64, ofBits, fits, isNan, le}
+use lib.Ieee.{Float, nan, binary64, ofBits, fits, isNan}
 use lib.Ieee.Bits.{ofBits-fits}
-use lib.ListN.{length, getD, replicate, length-replicate, getD-replicate}
+use lib.ListN.{getD, replicate, length-replicate, getD-replicate}
 use Rattle.alpha.specs.Weight as Weight
 use Rattle.alpha.specs.Weight.{one}
 use Rattle.answer.specs.Lent.{Lent}

@@ -1,19 +1,19 @@
 -- The start weights of nu and one-class lie in 0..1. Assumes nothing.
 use Prim.Native.Nat.{ℕ, zero, suc, _+_, _-_, _*_, _^_, _≤_, _<_}
-use mathlib.Core.Bool.{Bool, true, false, not, cond}
+use mathlib.Core.Bool.{Bool, true, false, cond}
 use mathlib.Core.List.{List}
 use mathlib.Core.Logic.{inl, inr}
-use mathlib.Core.Path.{_≡_, refl, sym, ap, ap₂, _∙_, subst}
+use mathlib.Core.Path.{_≡_, refl, sym, ap₂, _∙_, subst}
 use native.Mathlib.Nat.{mul-le-mul, mul-le-mul-right, mul-pos, mul-one, one-mul, le-of-eq, le-trans, le-of-mul-le-mul-right}
 use native.Mathlib.Omega.{arith}
 use lib.Dec.{T, eqb, ltb, eqb→eq, lit<}
 use lib.IntN.{pos}
 use lib.Pow.{pow-pos}
-use lib.Ieee.{Float, nan, inf, fin, Format, binary64, low, prec, emax, unlike, round, ofInt, ofBits, fits, isNan, sub, mul, div, lt, le, toUnsigned}
+use lib.Ieee.{Float, nan, inf, fin, Format, binary64, low, prec, unlike, round, ofInt, ofBits, fits, isNan, sub, mul, div, lt, le, toUnsigned}
 use lib.Ieee.Bits.{ofBits-fits}
 use lib.Ieee.Order.{round-mono}
 use lib.Ieee.Scale.{finite, overflow}
-use lib.ListN.{length, getD, set, length-replicate}
+use lib.ListN.{getD, length-replicate}
 use Rattle.alpha.specs.Weight as Weight
 use Rattle.alpha.specs.Weight.{one, two}
 use Rattle.boxed.specs.Range.{Ceiling, In}
@@ -22,11 +22,11 @@ use Rattle.fits.specs.declared.Rest.{Rest}
 use Rattle.floats.specs.Helpers.{minOf, wholeAsFloat, wholeProduct}
 use Rattle.floats.proofs.Laws.{min-picks, whole-largest}
 use Rattle.lists.proofs.Prefix.{prefix-at}
-use Rattle.rounding.specs.Units.{Number, Parts, plus, minus, magnitude, negative, Rounds, nought}
-use Rattle.rounding.proofs.Binary64.{zero-is, limit-parts, whole-parts}
-use Rattle.rounding.proofs.Order.{le-real, lt-real, le-refl}
+use Rattle.rounding.specs.Units.{Number, Parts, plus, minus, magnitude, negative, nought}
+use Rattle.rounding.proofs.Binary64.{zero-is, whole-parts}
+use Rattle.rounding.proofs.Order.{lt-real, le-refl}
 use Rattle.rounding.proofs.Products.{mul-units, div-units}
-use Rattle.rounding.proofs.Rounding.{round-number, rounded-power, rounded-pos, rounded-zero, round-parts}
+use Rattle.rounding.proofs.Rounding.{round-number, rounded-power, rounded-pos, round-parts}
 use Rattle.rounding.proofs.Sums.{sub-number, sub-rounds, sign}
 use Rattle.rounding.proofs.Units.{compare, one-part, magnitude-is, finite-parts, zero-parts}
 

@@ -1,6 +1,6 @@
 -- What an entry has shown where it accepts; and travel: at each point of its run the order names every sample once, and kernel index, label and
 -- linear term at a place are its sample's. Assumes nothing.
-use Prim.Native.Nat.{ℕ, _<_}
+use Prim.Native.Nat.{ℕ}
 use mathlib.Core.List.{List}
 use mathlib.Core.Path.{_≡_, _∙_}
 use native.Mathlib.Omega.{arith}

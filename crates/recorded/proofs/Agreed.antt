@@ -1,10 +1,10 @@
 -- `agree` says true exactly where the two are the same at every place. Assumes nothing.
 use Prim.Native.Nat.{ℕ, zero, suc, _<_}
-use mathlib.Core.Bool.{Bool, true, false, _&&_}
-use mathlib.Core.Path.{_≡_, refl, sym, subst}
+use mathlib.Core.Bool.{Bool, true, false}
+use mathlib.Core.Path.{_≡_, refl}
 use native.Mathlib.Omega.{arith}
 use borrow.Author.Tests.{eqb-true, eqb-false, eq-eqb}
-use lib.Dec.{T, eqb}
+use lib.Dec.{eqb}
 use Rattle.rounding.proofs.Order.{both}
 use Rattle.recorded.specs.Agree.{agree}
 

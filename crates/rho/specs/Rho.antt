@@ -3,7 +3,7 @@ use Prim.Native.Nat.{ℕ, zero, suc, _+_}
 use mathlib.Core.Bool.{Bool, true, false, cond}
 use mathlib.Core.List.{List}
 use lib.Dec.{eqb, ltb}
-use lib.Ieee.{Float, nan, inf, binary64, ofBits, neg, add, sub, mul, div}
+use lib.Ieee.{Float, nan, inf, binary64, ofBits, add, sub, mul, div}
 use lib.ListN.{getD}
 use Rattle.alpha.specs.Weight.{one, minusOne, two, atUpper, atLower}
 use Rattle.alpha.specs.declared.Alpha.{Alpha}

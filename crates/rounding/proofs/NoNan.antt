@@ -1,5 +1,5 @@
 -- Where a result is no NaN: magnitudes that stay bounded, a quotient by what is above zero, and the step of a chosen pair. Assumes nothing.
-use mathlib.Core.Path.{_≡_, refl, ap}
+use mathlib.Core.Path.{ap}
 use mathlib.Core.Logic.{inl}
 use mathlib.Core.Bool.{Bool, true, false, not}
 use Prim.Native.Nat.{ℕ, suc, _+_, _-_, _*_, _^_, _<_}

@@ -4,7 +4,7 @@ use mathlib.Core.Bool.{Bool, true, false}
 use mathlib.Core.Path.{_≡_, refl}
 use native.Mathlib.Omega.{arith}
 use borrow.Author.Tests.{lt-ltb, le-ltb}
-use Rattle.shrink.specs.Walk.{Walking, walking, fallen, exchanged, dropped, visited}
+use Rattle.shrink.specs.Walk.{walking, fallen, exchanged, dropped, visited}
 
 module _ {S : Type 0} (swap : S → ℕ → ℕ → S) (s : S) (i a : ℕ) where
   pub exchanged-far : i < a → walking a false (swap s i a) ≡ exchanged swap s i a

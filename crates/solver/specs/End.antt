@@ -1,13 +1,11 @@
 -- What a run answers (the rule, sections 'rho' and 'Run').
 use Prim.Native.Nat.{ℕ, zero, suc, _+_, _*_}
-use mathlib.Core.Bool.{Bool, _&&_, cond}
+use mathlib.Core.Bool.{_&&_, cond}
 use mathlib.Core.List.{List}
 use lib.Dec.{eqb, ltb}
 use lib.Ieee.{Float, nan, binary64, ofBits, add, mul, div}
 use lib.ListN.{getD}
 use Rattle.alpha.specs.Weight.{two}
-use Rattle.rho.specs.Rho.{rhoC, rhoNu}
-use Rattle.rho.specs.declared.Level.{Level}
 use Rattle.start.specs.Start.{started}
 use Rattle.state.specs.Lists.{State}
 use Rattle.solver.specs.Pass.{rebuilt, runs}

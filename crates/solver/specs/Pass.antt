@@ -15,9 +15,9 @@ use Rattle.reconstruct.specs.Reconstruct.{reconstructed}
 use Rattle.shrink.specs.Drops.{limitsC, limitsNu, walkedOver}
 use Rattle.shrink.specs.Walk.{Walking}
 use Rattle.shrink.specs.declared.Limits.{Limits}
-use Rattle.state.specs.Lists.{Problem, State}
+use Rattle.state.specs.Lists.{State}
 use Rattle.update.specs.Update.{updated}
-use Rattle.solver.specs.Run.{problemOf, Full, full, withFloats, withRun, goes, counterAt, reopened, advanced, ended, afterWalk, period}
+use Rattle.solver.specs.Run.{problemOf, Full, withFloats, withRun, goes, counterAt, reopened, advanced, ended, afterWalk, period}
 use Rattle.solver.specs.declared.Given.{Given}
 use Rattle.solver.specs.declared.Run.{Run}
 use Rattle.solver.specs.declared.Tops.{Tops}

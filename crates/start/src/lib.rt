@@ -47,11 +47,11 @@ fn join(
     if w.reached_lower() {
         return;
     }
-    rows::add_row(f, u, y, m, n, side, kind, 0, w.value, i, 0, n);
-    if !w.reached_upper() {
+    if w.reached_upper() {
+        rows::add_row_to_both(f, u, y, m, n, side, kind, w.value, b[i], i);
         return;
     }
-    rows::add_row(f, u, y, m, n, side, kind, n, b[i], i, 0, n);
+    rows::add_row(f, u, y, m, n, side, kind, 0, w.value, i, 0, n);
 }
 
 fn gather(

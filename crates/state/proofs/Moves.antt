@@ -1,20 +1,17 @@
 -- Laws of moving: where each place's content comes from. Assumes nothing.
 use Prim.Native.Nat.{ℕ, zero, suc, _+_, _*_, _≤_, _<_}
 use mathlib.Core.Bool.{cond}
-use mathlib.Core.List.{List, [], _∷_}
-use mathlib.Core.Path.{_≡_, refl, sym, ap, _∙_, subst}
+use mathlib.Core.List.{List, []}
+use mathlib.Core.Path.{_≡_, refl, sym, ap, _∙_}
 use native.Mathlib.Decide.{ℕ-discrete}
 use native.Mathlib.Nat.{suc-mul, eq-or-lt-of-le, le-of-suc-le-suc, mul-le-mul-right}
 use mathlib.Core.Logic.{inl, inr}
 use native.Mathlib.Omega.{arith}
 use borrow.Author.Tests.{eq-eqb, ne-eqb}
 use lib.Dec.{eqb}
-use lib.Ieee.{nan}
 use lib.ListN.{length, getD, set, length-set}
 use lib.Seq.{getD-set-same, getD-set-other}
-use Rattle.kernel.specs.Row.{kernelIndex, Indexed}
-use Rattle.state.specs.Lists.{Problem, State, state, Ready}
-use Rattle.state.specs.Moving.{swapped, swappedFields, moved}
+use Rattle.state.specs.Moving.{swapped, swappedFields}
 
 -- the place that place k's content comes from, where i and j are exchanged
 unfoldable pub source : ℕ → ℕ → ℕ → ℕ

@@ -1,7 +1,7 @@
 -- Two positions exchange all that travels (the rule, section 'Moving').
 use Prim.Native.Nat.{ℕ, zero, suc, _+_, _*_}
 use mathlib.Core.List.{List}
-use lib.Ieee.{Float, nan}
+use lib.Ieee.{nan}
 use lib.ListN.{getD, set}
 use Rattle.state.specs.Lists.{State}
 

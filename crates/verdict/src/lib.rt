@@ -1,59 +1,47 @@
 // Refusal 3, the scan of the matrix, and each entry's verdict: the lowest number of 3 to 10 that applies.
 ghost use mathlib.Core.Bool.{true};
 ghost use mathlib.Core.Path.{_≡_};
-ghost use Prim.Native.Nat.{ℕ, _+_, _*_, _/_, _≤_, _<_};
+ghost use Prim.Native.Nat.{ℕ, _+_, _*_, _≤_, _<_};
 ghost use lib.ListN.{length};
+ghost use Rattle.wire.specs.Wire.{digits};
 ghost use Rattle.judge.specs.Judge.{first, inLimit, entryGood, generalJudged, cJudged, nuJudged, oneClassJudged};
 use alpha::Alpha;
 use judge::Judged;
 
-// Whether the entry's top byte already shows it to be small: its exponent lies below that of 2^1000.
+fn wide(x: u8) -> u32
+    ensures { λ r. ⌜ (r ≡ x) × (r < 256) ⌝ }
+{
+    x as u32
+}
+
+// The number in the four bytes from at on. It compiles to one four-byte load.
+fn half_at(m: &[u8], at: usize) -> u32
+    requires { ⌜ at + 4 ≤ length (now m) ⌝ }
+    ensures { λ r. ⌜ r ≡ digits (now (m .entry)) at 4 ⌝ }
+{
+    wide(m[at])
+        + wide(m[at + 1]) * 0x100
+        + wide(m[at + 2]) * 0x1_0000
+        + wide(m[at + 3]) * 0x100_0000
+}
+
+// Whether the upper half of an entry already shows it to be small: its exponent lies below that of 2^1000. With the lowest bit of the
+// limit set the compiler asks the whole half, and four entries at a time.
 fn surely_small(m: &[u8], k: usize) -> bool
     requires { ⌜ (8 * (k + 1) ≤ length (now m)) × (k ≤ 262144) ⌝ }
     ensures { λ r. ⌜ (r ≡ true → entryGood (now (m .entry)) k ≡ true) ⌝ }
 {
-    m[8 * k + 7] % 128 < 126
+    half_at(m, 8 * k + 4) % 0x8000_0000 < 0x7dff_ffff
 }
 
-// The eight entries from k on, without a branch.
-fn eight_small(m: &[u8], k: usize) -> bool
-    requires { ⌜ (8 * (k + 8) ≤ length (now m)) × (k + 8 ≤ 262144) ⌝ }
-    ensures { λ r. ⌜ (r ≡ true → (j : ℕ) → k ≤ j → j < k + 8 → entryGood (now (m .entry)) j ≡ true) ⌝ }
-{
-    surely_small(m, k)
-        & surely_small(m, k + 1)
-        & surely_small(m, k + 2)
-        & surely_small(m, k + 3)
-        & surely_small(m, k + 4)
-        & surely_small(m, k + 5)
-        & surely_small(m, k + 6)
-        & surely_small(m, k + 7)
-}
-
-// As many eights of entries as there are among the first e. With a step of 8 the compiler packs the eight bytes into one comparison.
-fn eights_small(m: &[u8], e: usize) -> bool
-    requires { ⌜ (8 * e ≤ length (now m)) × (e ≤ 262144) ⌝ }
-    ensures { λ r. ⌜ (r ≡ true → (j : ℕ) → j < 8 * (e / 8) → entryGood (now (m .entry)) j ≡ true) ⌝ }
-{
-    let mut small = true;
-    let mut k: usize = 0;
-    while k + 8 <= e {
-        small = small & eight_small(m, k);
-        k += 8;
-    }
-    small
-}
-
-// The first e entries: eight at a time, then the rest.
+// The first e entries, without a branch.
 fn all_small(m: &[u8], e: usize) -> bool
     requires { ⌜ (8 * e ≤ length (now m)) × (e ≤ 262144) ⌝ }
     ensures { λ r. ⌜ (r ≡ true → (j : ℕ) → j < e → entryGood (now (m .entry)) j ≡ true) ⌝ }
 {
-    let mut small = eights_small(m, e);
-    let mut k = 8 * (e / 8);
-    while k < e {
+    let mut small = true;
+    for k in 0..e {
         small = small & surely_small(m, k);
-        k += 1;
     }
     small
 }
@@ -80,7 +68,7 @@ fn entries_judged(m: &[u8], e: usize) -> Judged
     Judged::Fine
 }
 
-// Refusal 3. The exact look is taken only where the top bytes leave a doubt.
+// Refusal 3. The exact look is taken only where the upper halves leave a doubt.
 fn matrix_judged(m: &[u8], n: usize) -> Judged
     requires { ⌜ (n ≤ 512) × (8 * (n * n) ≤ length (now m)) ⌝ }
     ensures { λ r. ⌜ r ≡ first 3 (entryGood (now (m .entry))) (n * n) 0 ⌝ }

@@ -1,6 +1,6 @@
 -- What is read back is what was written. Assumes nothing.
 use Prim.Native.Nat.{ℕ, zero, suc, _+_, _*_, _/_, _%_, _^_, _<_, _≤_}
-use mathlib.Core.Path.{_≡_, refl, sym, ap, _∙_, subst}
+use mathlib.Core.Path.{_≡_, refl, sym, ap, _∙_}
 use mathlib.Core.List.{List}
 use native.Mathlib.Nat.{mod-one, mod-eq-of-lt, pow-succ', one-le-pow, add-comm}
 use native.Mathlib.Omega.{arith}

@@ -92,7 +92,6 @@ pub fn told(s: &Samples, faults: &[Fault]) -> String {
 #[cfg(test)]
 mod tests {
     use super::*;
-    use altuliscia::{fit_c, fit_nu, fit_one_class, OneClass, Options, Problem};
 
     /// Numbers that look drawn, from 0 up to a limit.
     struct Drawn(u64);
@@ -132,30 +131,6 @@ mod tests {
         }
     }
 
-    /// What the library says of the same problem.
-    fn refused(s: &Samples, t: &Settings, c: (f64, f64)) -> Option<Refusal> {
-        let options = Options {
-            eps: t.eps,
-            shrinking: t.shrinking,
-            budget: t.budget,
-        };
-        let labels: Vec<bool> = s.labels.iter().map(|y| *y == 1).collect();
-        let problem = Problem {
-            matrix: &s.matrix,
-            labels: &labels,
-        };
-        let one = OneClass {
-            n: s.n,
-            matrix: &s.matrix,
-        };
-        let answer = match t.fit {
-            Fit::C => fit_c(&problem, c.0, c.1, &options),
-            Fit::Nu => fit_nu(&problem, t.nu, &options),
-            Fit::OneClass => fit_one_class(&one, t.nu, &options),
-        };
-        answer.err()
-    }
-
     #[test]
     fn the_first_fault_is_what_the_library_answers() {
         let above = f64::from_bits(limit().to_bits() + 1);
@@ -192,7 +167,8 @@ mod tests {
             let all = faults(&s, &t, c);
             let ours = all.first().map(|f| f.refusal);
             // What only a run can tell has no fault.
-            let theirs = refused(&s, &t, c).filter(|r| *r != Refusal::ShrunkAway);
+            let theirs = crate::answered(&s, &t, c).err();
+            let theirs = theirs.filter(|r| *r != Refusal::ShrunkAway);
             assert_eq!(ours, theirs, "{:?} {:?} {:?}", s, t, c);
             let numbers: Vec<(u64, u64)> = all
                 .iter()

@@ -13,7 +13,7 @@ mod trouble;
 
 pub use trouble::Trouble;
 
-use altuliscia::{fit_c, fit_nu, fit_one_class, Answer, OneClass, Options, Problem};
+use altuliscia::{fit_c, fit_nu, fit_one_class, Answer, OneClass, Options, Problem, Refusal};
 use arguments::{Call, Command, Fit, Settings, Words};
 use problem::Samples;
 use std::io::Write;
@@ -67,7 +67,12 @@ fn carried_out(call: &Call, out: &mut dyn Write, terminal: bool) -> Result<(), T
 }
 
 /// Trains a problem without faults.
-fn trained(s: &Samples, settings: &Settings, (cpos, cneg): (f64, f64)) -> Result<Answer, Trouble> {
+fn trained(s: &Samples, settings: &Settings, costs: (f64, f64)) -> Result<Answer, Trouble> {
+    answered(s, settings, costs).map_err(|refusal| Trouble::Refused(s.path.clone(), refusal))
+}
+
+/// What the library answers.
+fn answered(s: &Samples, settings: &Settings, (cpos, cneg): (f64, f64)) -> Result<Answer, Refusal> {
     let options = Options {
         eps: settings.eps,
         shrinking: settings.shrinking,
@@ -82,12 +87,11 @@ fn trained(s: &Samples, settings: &Settings, (cpos, cneg): (f64, f64)) -> Result
         n: s.n,
         matrix: &s.matrix,
     };
-    let answer = match settings.fit {
+    match settings.fit {
         Fit::C => fit_c(&problem, cpos, cneg, &options),
         Fit::Nu => fit_nu(&problem, settings.nu, &options),
         Fit::OneClass => fit_one_class(&one, settings.nu, &options),
-    };
-    answer.map_err(|refusal| Trouble::Refused(s.path.clone(), refusal))
+    }
 }
 
 fn tell(out: &mut dyn Write, text: &str) -> Result<(), Trouble> {

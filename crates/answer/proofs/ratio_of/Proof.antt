@@ -1,5 +1,4 @@
 use Rattle.answer.specs.Answer.{ratioOf}
-use borrow.Author.Needs.{needs}
 use Rattle.answer.proofs.ratio_of.Statement.{statement}
 use Rattle.answer.proofs.ratio_of.Tie as tie
 

@@ -1,6 +1,5 @@
 use borrow.Author.Tests.{eq-eqb, ne-eqb}
 use Rattle.answer.specs.Answer.{reasonOf}
-use borrow.Author.Needs.{needs}
 use Rattle.answer.proofs.reason.Statement.{statement}
 use Rattle.answer.proofs.reason.Tie as tie
 

@@ -1,5 +1,4 @@
 use borrow.Author.Tests.{eq-eqb, ne-eqb}
-use borrow.Author.Needs.{needs}
 use Rattle.answer.proofs.sign.Statement.{statement}
 use Rattle.answer.proofs.sign.Tie as tie
 

@@ -1,11 +1,8 @@
-use mathlib.Core.Path.{_≡_, sym, _∙_}
+use mathlib.Core.Path.{sym, _∙_}
 use native.Mathlib.Omega.{arith}
 use denote.Ref.{now}
-use lib.Dec.{T}
-use Rattle.extreme.specs.declared.Extreme.{Extreme}
 use Rattle.rounding.proofs.Order.{both, holds}
 use Rattle.state.specs.Lists.{problem, state}
-use Rattle.choose_c.specs.Raced.{racesTo}
 use Rattle.choose_c.proofs.Won.{rise-won, fall-won}
 use borrow.Author.Needs.{needs}
 use Rattle.choose_c.proofs.max_violating_pair.Statement.{statement}

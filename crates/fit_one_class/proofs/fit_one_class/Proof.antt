@@ -1,8 +1,6 @@
 use mathlib.Core.Path.{sym, _∙_}
-use denote.Ref.{now}
 use borrow.Author.Tests.{eq-eqb, ne-eqb}
-use lib.ListN.{length}
-use Rattle.judge.proofs.Lengths.{inputs-of, room-of}
+use Rattle.judge.proofs.Lengths.{room-of}
 use Rattle.classification.specs.Entries.{entered, fitOneClassOf}
 use borrow.Author.Needs.{needs}
 use Rattle.fit_one_class.proofs.fit_one_class.Statement.{statement}

@@ -1,5 +1,4 @@
 use borrow.Author.Tests.{eq-eqb, ne-eqb}
-use borrow.Author.Needs.{needs}
 use Rattle.fits.proofs.cost.Statement.{statement}
 use Rattle.fits.proofs.cost.Tie as tie
 

@@ -2,7 +2,6 @@ use mathlib.Core.Path.{sym, subst}
 use lib.Dec.{T}
 use lib.Ieee.{ofBits}
 use Rattle.floats.proofs.Magnitude.{abs-below, abs-zero, abs-above}
-use borrow.Author.Needs.{needs}
 use Rattle.floats.proofs.abs.Statement.{statement}
 use Rattle.floats.proofs.abs.Tie as tie
 

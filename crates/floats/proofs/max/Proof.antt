@@ -1,5 +1,4 @@
 use Rattle.rounding.proofs.Order.{ne-itself}
-use borrow.Author.Needs.{needs}
 use Rattle.floats.proofs.max.Statement.{statement}
 use Rattle.floats.proofs.max.Tie as tie
 

@@ -3,7 +3,6 @@ use mathlib.Core.Path.{refl}
 use native.Mathlib.Omega.{arith}
 use lib.Dec.{le→leb}
 use lib.Ieee.{inFloat}
-use borrow.Author.Needs.{needs}
 use Rattle.floats.proofs.whole_as_float.Statement.{statement}
 use Rattle.floats.proofs.whole_as_float.Tie as tie
 

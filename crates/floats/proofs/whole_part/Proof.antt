@@ -2,7 +2,6 @@ use mathlib.Core.Path.{sym, subst}
 use lib.Dec.{T}
 use lib.Ieee.{ofBits, neg}
 use Rattle.floats.proofs.Whole.{whole-none, whole-full}
-use borrow.Author.Needs.{needs}
 use Rattle.floats.proofs.whole_part.Statement.{statement}
 use Rattle.floats.proofs.whole_part.Tie as tie
 

@@ -1,6 +1,5 @@
 use native.Mathlib.Omega.{arith}
 use Rattle.kernel.proofs.Inside.{inside}
-use borrow.Author.Needs.{needs}
 use Rattle.kernel.proofs.read_entry.Statement.{statement}
 use Rattle.kernel.proofs.read_entry.Tie as tie
 

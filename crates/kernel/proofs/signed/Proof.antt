@@ -1,4 +1,3 @@
-use borrow.Author.Needs.{needs}
 use Rattle.kernel.proofs.signed.Statement.{statement}
 use Rattle.kernel.proofs.signed.Tie as tie
 

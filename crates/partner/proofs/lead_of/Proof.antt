@@ -1,4 +1,5 @@
 use native.Mathlib.Omega.{arith}
+use lib.Ieee.{neg, div, ofBits}
 use borrow.Author.Needs.{needs}
 use Rattle.partner.proofs.lead_of.Statement.{statement}
 use Rattle.partner.proofs.lead_of.Tie as tie
@@ -13,6 +14,7 @@ returns : tie.Need-returns
 returns c = rw (c .before .before .before .before .h .given .1, ← c .before .before .index-at .ensures .0)
 
 returns-2 : tie.Need-returns-2
+unfolding div neg ofBits
 returns-2 c = rw (c .enum-told .given .1)
 
 pub lead-of-spec : {M : Type 1} → statement M

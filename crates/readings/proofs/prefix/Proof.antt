@@ -2,7 +2,6 @@ use mathlib.Core.Path.{refl, sym}
 use native.Mathlib.Omega.{arith}
 use lib.ListN.{length-take}
 use lib.Seq.{take-all}
-use borrow.Author.Needs.{needs}
 use Rattle.readings.proofs.prefix.Statement.{statement}
 use Rattle.readings.proofs.prefix.Tie as tie
 

@@ -1,4 +1,4 @@
-use mathlib.Core.Path.{_≡_, sym, _∙_}
+use mathlib.Core.Path.{sym, _∙_}
 use borrow.Author.Tests.{not-true, not-false}
 use Rattle.reconstruct.proofs.Tests.{inner-kept, inner-free}
 use borrow.Author.Needs.{needs}

@@ -1,4 +1,3 @@
-use borrow.Author.Needs.{needs}
 use Rattle.rho.proofs.sign.Statement.{statement}
 use Rattle.rho.proofs.sign.Tie as tie
 

@@ -1,4 +1,3 @@
-use borrow.Author.Needs.{needs}
 use Rattle.shrink.proofs.at_lower.Statement.{statement}
 use Rattle.shrink.proofs.at_lower.Tie as tie
 

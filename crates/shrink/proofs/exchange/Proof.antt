@@ -1,4 +1,4 @@
-use mathlib.Core.Path.{_≡_, refl}
+use mathlib.Core.Path.{refl}
 use denote.Ref.{now}
 use Rattle.state.specs.Lists.{state}
 use Rattle.state.specs.Moving.{moved}

@@ -1,4 +1,3 @@
-use borrow.Author.Needs.{needs}
 use Rattle.solver.proofs.after_walk.Statement.{statement}
 use Rattle.solver.proofs.after_walk.Tie as tie
 

@@ -1,7 +1,6 @@
 use native.Mathlib.Omega.{arith}
 use borrow.Author.Tests.{lt-ltb, le-ltb}
 use Rattle.solver.specs.Run.{period}
-use borrow.Author.Needs.{needs}
 use Rattle.solver.proofs.period_of.Statement.{statement}
 use Rattle.solver.proofs.period_of.Tie as tie
 

@@ -1,5 +1,5 @@
 use mathlib.Core.List.{List}
-use mathlib.Core.Path.{_≡_, ap, _∙_}
+use mathlib.Core.Path.{ap, _∙_}
 use denote.Ref.{now}
 use Rattle.choose_c.specs.declared.Extremes.{Extremes}
 use Rattle.extreme.specs.declared.Extreme.{Extreme}

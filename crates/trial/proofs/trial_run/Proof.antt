@@ -1,5 +1,5 @@
 use mathlib.Core.Bool.{not}
-use mathlib.Core.Path.{_≡_, ap, _∙_}
+use mathlib.Core.Path.{ap, _∙_}
 use denote.Ref.{now}
 use lib.Dec.{eqb}
 use Rattle.solver.specs.Run.{Full}

@@ -1,9 +1,10 @@
-//! Stand-in for `linfa_kernel`: a kernel is a given square matrix, and no
-//! kernel function is known.
+//! Stand-in for `linfa_kernel` at the least cost: a kernel is a given square matrix, which is shared, and a column is lent out of
+//! it, never copied. (The published crate copies a column each time it is asked for one.) No kernel function is known.
 
 use linfa::Float;
 use ndarray::Array1;
 use std::marker::PhantomData;
+use std::rc::Rc;
 
 /// Which function made the matrix. Nobody knows here: it was given.
 #[derive(Clone, Debug, PartialEq)]
@@ -15,13 +16,14 @@ pub enum KernelMethod<F> {
 pub struct Kernel<F: Float> {
     size: usize,
     /// Column after column.
-    entries: Vec<F>,
+    entries: Rc<[F]>,
     pub method: KernelMethod<F>,
 }
 
 impl<F: Float> Kernel<F> {
     /// The entry of column c, row r stands at c·size + r of `entries`.
-    pub fn given(size: usize, entries: Vec<F>) -> Kernel<F> {
+    pub fn given(size: usize, entries: impl Into<Rc<[F]>>) -> Kernel<F> {
+        let entries = entries.into();
         assert_eq!(entries.len(), size * size, "the matrix isn't square");
         Kernel {
             size,

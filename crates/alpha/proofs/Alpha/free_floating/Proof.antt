@@ -1,4 +1,3 @@
-use borrow.Author.Needs.{needs}
 use Rattle.alpha.proofs.Alpha.free_floating.Statement.{statement}
 use Rattle.alpha.proofs.Alpha.free_floating.Tie as tie
 

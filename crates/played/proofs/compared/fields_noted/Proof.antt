@@ -1,5 +1,4 @@
 use Prim.Native.Nat.{_≤_, _-_}
-use native.Mathlib.Omega.{arith}
 use borrow.Author.Needs.{needs}
 use Rattle.played.proofs.compared.fields_noted.Statement.{statement}
 use Rattle.played.proofs.compared.fields_noted.Tie as tie

@@ -1,8 +1,7 @@
-use Prim.Native.Nat.{_+_, _≤_, _-_}
+use Prim.Native.Nat.{_≤_, _-_}
 use mathlib.Core.Path.{_≡_, refl}
 use native.Mathlib.Numerals.{add-one}
 use native.Mathlib.Omega.{arith}
-use lib.ListN.{length}
 use Rattle.recorded.specs.Agree.{agree, looseIn, looseFrom}
 use borrow.Author.Needs.{needs}
 use Rattle.recorded.proofs.agree.answer_told.Statement.{statement}

@@ -1,6 +1,5 @@
-use mathlib.Core.Path.{_≡_, refl}
+use mathlib.Core.Path.{refl}
 use Rattle.recorded.specs.Agree.{looseOf}
-use borrow.Author.Needs.{needs}
 use Rattle.recorded.proofs.agree.loose.Statement.{statement}
 use Rattle.recorded.proofs.agree.loose.Tie as tie
 

@@ -1,7 +1,6 @@
 use mathlib.Core.Path.{refl}
 use native.Mathlib.Omega.{arith}
 use lib.ListN.{length-take}
-use borrow.Author.Needs.{needs}
 use Rattle.recorded.proofs.layout.first.Statement.{statement}
 use Rattle.recorded.proofs.layout.first.Tie as tie
 

@@ -1,4 +1,3 @@
-use mathlib.Core.Path.{_≡_, refl}
 use borrow.Author.Needs.{needs}
 use Rattle.recorded.proofs.layout.float.Statement.{statement}
 use Rattle.recorded.proofs.layout.float.Tie as tie

@@ -1,5 +1,4 @@
 use Prim.Native.Nat.{_≤_, _-_}
-use native.Mathlib.Omega.{arith}
 use borrow.Author.Needs.{needs}
 use Rattle.replay.proofs.counted.table.Statement.{statement}
 use Rattle.replay.proofs.counted.table.Tie as tie
