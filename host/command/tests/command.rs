@@ -393,27 +393,29 @@ fn help_is_there_for_all() {
     }
 }
 
-/// The program itself, where this machine can start it.
+/// The program, by the emulator where one runs these tests.
+fn program() -> Command {
+    let path = env!("CARGO_BIN_EXE_altuliscia");
+    let emulator =
+        std::env::var("CARGO_TARGET_X86_64_UNKNOWN_LINUX_GNU_RUNNER").unwrap_or_default();
+    let mut words = emulator.split_whitespace().chain([path]);
+    let mut command = Command::new(words.next().unwrap());
+    command.args(words);
+    command
+}
+
 #[test]
 fn the_program_has_these_statuses() {
     let f = folder("program");
     let path = file(&f, "small.txt", SMALL.as_bytes());
-    let program = |words: &[&str]| {
-        let mut command = Command::new(env!("CARGO_BIN_EXE_altuliscia"));
-        command.args(words).current_dir(&f).output()
-    };
-    let output = match program(&["train", &path]) {
-        Ok(output) => output,
-        // An emulator runs this test, but can't start another program for it.
-        Err(e) if e.raw_os_error() == Some(8) => return,
-        Err(e) => panic!("{}", e),
-    };
+    let said = |words: &[&str]| program().args(words).current_dir(&f).output().unwrap();
+    let output = said(&["train", &path]);
     assert_eq!((output.status.code(), output.stderr.len()), (Some(0), 0));
     assert!(String::from_utf8(output.stdout)
         .unwrap()
         .starts_with("optimization finished, #iter = 1\n"));
     assert!(f.join("small.txt.model").exists());
-    let output = program(&["check", "-e", "-1", &path]).unwrap();
+    let output = said(&["check", "-e", "-1", &path]);
     assert_eq!(output.status.code(), Some(18));
     assert_eq!(
         String::from_utf8(output.stderr).unwrap(),
@@ -422,14 +424,13 @@ fn the_program_has_these_statuses() {
     #[cfg(unix)]
     {
         use std::os::unix::ffi::OsStrExt;
-        let mut command = Command::new(env!("CARGO_BIN_EXE_altuliscia"));
         let word = std::ffi::OsStr::from_bytes(b"a\xff");
-        let output = command.arg("train").arg(word).output().unwrap();
+        let output = program().arg("train").arg(word).output().unwrap();
         assert_eq!(output.status.code(), Some(2));
         let told = "altuliscia: \"a\\xFF\" isn't UTF-8: give the file another name (see altuliscia --help)\n";
         assert_eq!(String::from_utf8(output.stderr).unwrap(), told);
     }
-    let output = program(&[]).unwrap();
+    let output = said(&[]);
     assert_eq!((output.status.code(), output.stdout.len()), (Some(2), 0));
     let told = "altuliscia: a command is missing (see altuliscia --help)\n";
     assert_eq!(String::from_utf8(output.stderr).unwrap(), told);
