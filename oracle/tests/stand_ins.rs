@@ -60,7 +60,7 @@ fn params() -> SolverParams<f64> {
 fn the_support_vectors_are_the_samples_with_a_weight() {
     // the third sample stands far on its own side and gets no weight
     let x = [1.0, -1.0, 5.0];
-    let entries = (0..9).map(|k| x[k / 3] * x[k % 3]).collect();
+    let entries: Vec<f64> = (0..9).map(|k| x[k / 3] * x[k % 3]).collect();
     let kernel = Kernel::given(3, entries);
     let dataset = ArrayView2::from_rows(3, 1, &x);
     let labels = [true, false, true];
@@ -78,7 +78,7 @@ fn the_support_vectors_are_the_samples_with_a_weight() {
 #[test]
 fn the_nu_fit_of_regression_folds_its_two_halves() {
     let x = [1.0, 2.0, 3.0];
-    let entries = (0..9).map(|k| x[k / 3] * x[k % 3]).collect();
+    let entries: Vec<f64> = (0..9).map(|k| x[k / 3] * x[k % 3]).collect();
     let kernel = Kernel::given(3, entries);
     let dataset = ArrayView2::from_rows(3, 1, &x);
     let svm = regression::fit_nu(params(), dataset, kernel, &[1.0, 2.0, 3.0], 0.5, 1.0);

@@ -1,11 +1,11 @@
 -- A small upper half shows a good entry, and how the places of such a look add up. Assumes nothing.
 use Prim.Native.Nat.{ℕ, _+_, _*_, _%_, _≤_, _<_}
-use mathlib.Core.Bool.{Bool, true, false, _&&_}
+use mathlib.Core.Bool.{Bool, true, _&&_}
 use mathlib.Core.List.{List}
-use mathlib.Core.Path.{_≡_, refl, ap}
+use mathlib.Core.Logic.{inl, inr}
+use mathlib.Core.Path.{_≡_, ap}
+use native.Mathlib.Nat.{eq-or-lt-of-le}
 use native.Mathlib.Omega.{arith}
-use borrow.Author.Tests.{leb-true, leb-false}
-use lib.Dec.{leb}
 use lib.ListN.{getD}
 use Rattle.rounding.proofs.Order.{both}
 use Rattle.wire.specs.Wire.{digits}
@@ -39,23 +39,16 @@ small-good b s k h = let p = small-pattern (digits b (8 * k) 8) (low b s (8 * k)
 
 -- ---- places
 
--- each place from a on, below b
-abbrev pub Each : (ℕ → Bool) → ℕ → ℕ → Type 0
-Each good a b = (j : ℕ) → a ≤ j → j < b → good j ≡ true
+-- each place below b
+abbrev pub Each : (ℕ → Bool) → ℕ → Type 0
+Each good b = (j : ℕ) → j < b → good j ≡ true
 
-pub none : (good : ℕ → Bool) → Each good 0 0
-none good j l u = let z : ⊥ = omega arith in absurd z
-
-join : (good : ℕ → Bool) (a b c : ℕ) → Each good a b → Each good b c → Each good a c
-join good a b c f g j l u = go (leb b j) refl
-  where
-    go : (t : Bool) → leb b j ≡ t → good j ≡ true
-    go true e = g j (leb-true b j e) u
-    go false e = f j l (leb-false b j e)
-
-single : (good : ℕ → Bool) (k : ℕ) → good k ≡ true → Each good k (k + 1)
-single good k h j l u = let e : j ≡ k = omega arith in rw e h
+pub none : (good : ℕ → Bool) → Each good 0
+none good j u = let z : ⊥ = omega arith in absurd z
 
 -- s and t are looks at the places below k and at k
-pub one-more : (good : ℕ → Bool) (a k : ℕ) (s t : Bool) → (s ≡ true → Each good a k) → (t ≡ true → good k ≡ true) → (s && t) ≡ true → Each good a (k + 1)
-one-more good a k s t f g h = let p = both s t h in join good a k (k + 1) (f (p .0)) (single good k (g (p .1)))
+pub one-more : (good : ℕ → Bool) (k : ℕ) (s t : Bool) → (s ≡ true → Each good k) → (t ≡ true → good k ≡ true) → (s && t) ≡ true → Each good (k + 1)
+one-more good k s t f g h j u =
+    let p = both s t h in
+    let l : j ≤ k = omega arith in
+    elim (eq-or-lt-of-le l) [ inl e ↦ rw e (g (p .1)) | inr i ↦ f (p .0) j i ]
