@@ -1,2 +1,2 @@
 pub mod Rule
-pub mod Won
+pub mod Calm

@@ -4,6 +4,7 @@ ghost use mathlib.Core.Path.{_≡_};
 ghost use Prim.Native.Nat.{_≤_};
 ghost use Rattle.state.specs.Lists.{problem, state, Ready};
 ghost use Rattle.choose_nu.specs.Choice.{extremesNu, weighedNu, choiceNu};
+ghost use Rattle.choose_nu.specs.Stirred.{stirredNu};
 use alpha::Alpha;
 use extreme::Choice;
 use extreme::Extreme;
@@ -40,7 +41,22 @@ fn weighed(es: [Extreme; 4], k: usize, pos: bool, g: f64, w: Alpha) -> [Extreme;
     }
 }
 
-// The four extremes of the active positions.
+// Whether the position may change one of the two extremes of its label.
+fn stirs(es: [Extreme; 4], pos: bool, g: f64, w: Alpha) -> bool
+    ensures { λ r. ⌜ r ≡ stirredNu es pos g w ⌝ }
+{
+    let e0 = es[0];
+    let e1 = es[1];
+    let e2 = es[2];
+    let e3 = es[3];
+    if pos {
+        partner::stirs(g, w, e0.value, e2.value)
+    } else {
+        partner::stirs(g, w, e3.value, e1.value)
+    }
+}
+
+// The four extremes of the active positions. Most positions don't stir, and are asked no more.
 pub fn max_violating_pair_nu(
     f: &[f64],
     u: &[u64],
@@ -61,8 +77,11 @@ pub fn max_violating_pair_nu(
     };
     let mut es = [none; 4];
     for k in 0..active {
-        let t = weighed(es, k, y[k] == 1, f[k], state::alpha_at(f, n, k));
-        es = t;
+        let w = state::alpha_at(f, n, k);
+        if stirs(es, y[k] == 1, f[k], w) {
+            let t = weighed(es, k, y[k] == 1, f[k], w);
+            es = t;
+        }
     }
     es
 }

@@ -5,39 +5,23 @@ use mathlib.Core.Path.{_≡_, refl, sym}
 use native.Mathlib.Omega.{arith}
 use borrow.Author.Tests.{lt-ltb}
 use lib.Dec.{T, T-not, ltb, ltb→lt}
-use lib.Ieee.{Float, inf, isNan, lt}
+use lib.Ieee.{Float, inf, isNan}
 use Rattle.rounding.specs.Units.{Real}
-use Rattle.rounding.proofs.Order.{holds, fails, le-real, lt-real, lt→le, le-refl, le-trans, not-lt, least, greatest}
-use Rattle.extreme.specs.Best.{nobody, held, atLeast, above, atMost, weighed}
+use Rattle.rounding.proofs.Order.{holds, fails, le-real, lt→le, le-refl, le-trans, not-lt}
+use Rattle.extreme.specs.Best.{nobody, held, atMost, weighed}
 use Rattle.extreme.specs.Racing.{racing, below, raced, foundIn}
 use Rattle.extreme.specs.declared.Extreme.{Extreme}
 use Rattle.extreme.specs.declared.Found.the-variants.{At, Nobody}
 use Rattle.extreme.specs.declared.Race.{Race}
 
--- a test, its strict half, and where it starts: nothing is worse
+-- a test, its strict half, and where it starts
 pub record Halves (strict takes : Float → Float → Bool) (start : Float) : Type 0 where
   pub through : (x y z : Float) → T (takes x y) → T (takes y z) → T (takes x z)
   pub itself : (x : Float) → Real x → T (takes x x)
   pub reals : (x y : Float) → T (takes x y) → Real x × Real y
   pub weak : (x y : Float) → T (strict x y) → T (takes x y)
   pub turn : (x y : Float) → T (takes x y) → T (not (strict x y)) → T (takes y x)
-  pub not-both : (x y : Float) → T (strict x y) → T (takes y x) → ⊥
-  pub worst : (x : Float) → Real x → T (takes start x)
   pub real : Real start
-
-pub greatest-halves : Halves above atLeast (inf true)
-unfolding isNan
-greatest-halves =
-    record {
-      through = le-trans;
-      itself = le-refl;
-      reals = le-real;
-      weak = lt→le;
-      turn = λ x y a b. not-lt x y (le-real x y a .0) (le-real x y a .1) .0 b;
-      not-both = λ x y a b. T-not (lt x y) (not-lt x y (lt-real x y a .0) (lt-real x y a .1) .1 b) a;
-      worst = least;
-      real = tt;
-    }
 
 pub least-halves : Halves below atMost (inf false)
 unfolding isNan
@@ -48,8 +32,6 @@ least-halves =
       reals = λ x y a. (le-real y x a .1, le-real y x a .0);
       weak = λ x y a. lt→le y x a;
       turn = λ x y a b. not-lt y x (le-real y x a .0) (le-real y x a .1) .0 b;
-      not-both = λ x y a b. T-not (lt y x) (not-lt y x (lt-real y x a .0) (lt-real y x a .1) .1 b) a;
-      worst = greatest;
       real = tt;
     }
 
@@ -100,35 +82,3 @@ module _ {strict takes : Float → Float → Bool} {start : Float} (h : Halves s
   unfolding raced
   tracks-weighed a k v r e l w true = rw (sym (same-test (r .value) (e .value) v (w .value))) (tracks-raced a k v r e l w (takes (r .value) v) refl)
   tracks-weighed a k v r e l w false = w
-
-  -- ---- who may not take part runs with the start's value: where the race got above that, its place is the holder
-
-  pub record Leads (r : Race) (e : Extreme) : Type 0 where
-    pub value : Near (r .value) (e .value)
-    pub top : T (strict start (r .value)) → e .holder ≡ At (r .at)
-
-  pub leads-start : (a : ℕ) → Leads (racing start a) (nobody start)
-  leads-start a =
-      let i = h .itself start (h .real) in
-      record { value = (i, i); top = λ t. absurd (h .not-both start start t i) }
-
-  leads-raced : (k : ℕ) (v : Float) (r : Race) (e : Extreme) → Leads r e → (t : Bool) → takes (r .value) v ≡ t
-      → Leads (racing (cond (strict (r .value) v) v (r .value)) (cond t k (r .at))) (cond t (held v k) e)
-  leads-raced k v r e w true p = record { value = near-taken (r .value) v (holds (takes (r .value) v) .1 p) (strict (r .value) v) refl; top = λ s. refl }
-  leads-raced k v r e w false p = rw (kept (r .value) v p (strict (r .value) v) refl) (record { value = w .value; top = w .top })
-
-  leads-left : (k : ℕ) (r : Race) (e : Extreme) → Leads r e → (s t : Bool) → strict (r .value) start ≡ s → takes (r .value) start ≡ t
-      → Leads (racing (cond s start (r .value)) (cond t k (r .at))) e
-  leads-left k r e w true t p q =
-      absurd (h .not-both (r .value) start (holds (strict (r .value) start) .1 p) (h .worst (r .value) (h .reals (r .value) (e .value) (w .value .0) .0)))
-  leads-left k r e w false true p q = record {
-    value = w .value;
-    top = λ s. absurd (h .not-both start (r .value) s (holds (takes (r .value) start) .1 q));
-  }
-  leads-left k r e w false false p q = record { value = w .value; top = w .top }
-
-  pub leads-weighed : (k : ℕ) (v : Float) (r : Race) (e : Extreme) → Leads r e → (may : Bool)
-      → Leads (raced strict takes k (cond may v start) r) (weighed takes may k v e)
-  unfolding raced
-  leads-weighed k v r e w true = rw (sym (same-test (r .value) (e .value) v (w .value))) (leads-raced k v r e w (takes (r .value) v) refl)
-  leads-weighed k v r e w false = leads-left k r e w (strict (r .value) start) (takes (r .value) start) refl refl

@@ -14,7 +14,7 @@ pub struct Extreme {
     pub holder: Found,
 }
 
-// The same without the holder's word for it: where nobody holds it, at has no meaning, or a meaning of its owner's.
+// The same without the holder's word for it: which place stands for nobody, its owner says.
 pub struct Race {
     pub value: f64,
     pub at: usize,
@@ -83,17 +83,7 @@ fn place_of(better: bool, k: usize, at: usize) -> usize
     if better { k } else { at }
 }
 
-// The greatest, the last of equals, in two selections.
-pub fn ahead(r: Race, k: usize, v: f64) -> Race
-    ensures { λ q. ⌜ q ≡ raced above atLeast k v r ⌝ }
-{
-    Race {
-        value: value_of(v > r.value, v, r.value),
-        at: place_of(v >= r.value, k, r.at),
-    }
-}
-
-// The least, the last of equals, likewise.
+// The least, the last of equals, in two selections.
 pub fn behind(r: Race, k: usize, v: f64) -> Race
     ensures { λ q. ⌜ q ≡ raced below atMost k v r ⌝ }
 {

@@ -1,8 +1,8 @@
 -- Laws of a row, for callers. Assumes nothing.
 use Prim.Native.Nat.{ℕ, zero, suc, _+_, _*_, _≤_, _<_}
-use mathlib.Core.Bool.{Bool, true, false, Bool·beq}
+use mathlib.Core.Bool.{Bool, true, false, cond, Bool·beq}
 use mathlib.Core.List.{List}
-use mathlib.Core.Path.{_≡_, refl, ap, _∙_}
+use mathlib.Core.Path.{_≡_, refl, ap, sym, _∙_}
 use mathlib.Core.Logic.{inl, inr}
 use native.Mathlib.Nat.{eq-or-lt-of-le, le-of-suc-le-suc}
 use native.Mathlib.Omega.{arith}
@@ -12,7 +12,7 @@ use lib.ListN.{length, getD, length-set}
 use lib.Seq.{getD-set-same, getD-set-other}
 use Rattle.alpha.specs.Weight.{two}
 use Rattle.rounding.proofs.Order.{neg-neg}
-use Rattle.rounding.proofs.Products.{mul-neg-right}
+use Rattle.rounding.proofs.Products.{mul-neg, mul-neg-right}
 use Rattle.kernel.specs.Curvature.{curved}
 use Rattle.kernel.specs.Matrix.{entryAt}
 use Rattle.kernel.specs.Row.{kernelIndex, alikeOf, signedOf, rowAt, rowTo}
@@ -50,7 +50,18 @@ module _ (kind : Kind) (side : ℕ) (m : List ℕ) (n : ℕ) (u y : List ℕ) (i
     rowTo-other zero q h = refl
     rowTo-other (suc k) q h = getD-set-other (rowTo kind side m n u y i f k) (6 * n + k) q (rowAt kind side m n u y i k) nan (h k (omega arith)) ∙ rowTo-other k q (λ p g. h p (omega arith))
 
--- ---- the sign of an entry goes through its curvature
+-- ---- the sign of an entry goes through its product, and through its curvature
+
+-- to what it is multiplied by, bit for bit
+pub sign-moves : (alike : Bool) (x t : Float) → mul binary64 x (signedOf alike t) ≡ mul binary64 (signedOf alike x) t
+sign-moves true x t = refl
+sign-moves false x t = mul-neg-right binary64 x t ∙ sym (mul-neg binary64 x t)
+
+-- twice the entry taken away is its product with -2 added, bit for bit
+pub curved-once : (agree : Bool) (di dj x : Float) → add binary64 (add binary64 di dj) (mul binary64 (cond agree (neg two) two) x) ≡ curved agree di dj x
+unfolding curved sub
+curved-once true di dj x = ap (add binary64 (add binary64 di dj)) (mul-neg binary64 two x)
+curved-once false di dj x = refl
 
 -- a negated entry is taken away where it would be added, and added where it would be taken away, bit for bit
 pub curved-signed : (agree alike : Bool) (di dj x : Float) → curved agree di dj (signedOf alike x) ≡ curved (Bool·beq agree alike) di dj x

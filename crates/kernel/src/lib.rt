@@ -1,8 +1,10 @@
 // The lent kernel matrix. A reader answers each entry; what other crates call takes plain slices.
-ghost use mathlib.Core.Bool.{Bool};
+ghost use mathlib.Core.Bool.{Bool, cond};
 ghost use mathlib.Core.Path.{_≡_};
 ghost use Prim.Native.Nat.{_+_, _*_, _≤_, _<_};
+ghost use lib.Ieee.{binary64, neg, mul};
 ghost use lib.ListN.{length};
+ghost use Rattle.alpha.specs.Weight.{two};
 ghost use Rattle.kernel.specs.Curvature.{curved};
 ghost use Rattle.kernel.specs.Matrix.{entryAt, Matrix};
 ghost use Rattle.kernel.specs.Row.{kernelIndex, Indexed, alikeOf, signedOf, reachOf, rowAt, rowTo};
@@ -100,6 +102,26 @@ pub fn reach(
     signed(alike(kind, a, y[k]), entry(m, side, c, r))
 }
 
+// x times an entry of such a row. The sign goes to x, which is the same all along the loop.
+pub fn pull(
+    kind: Kind,
+    m: &[u8],
+    side: usize,
+    c: usize,
+    a: u8,
+    u: &[u64],
+    n: usize,
+    y: &[u8],
+    k: usize,
+    x: f64,
+) -> f64
+    requires { ⌜ (Matrix side (now m)) × (Indexed side n (now u)) × (n ≤ length (now y)) × (c < side) × (k < n) ⌝ }
+    ensures { λ r. ⌜ r ≡ mul binary64 (reachOf kind side (now (m .entry)) c a n (now (u .entry)) (now (y .entry)) k) x ⌝ }
+{
+    let r = index_at(u, side, n, k);
+    entry(m, side, c, r) * signed(alike(kind, a, y[k]), x)
+}
+
 // Row i at position k.
 pub fn distance(
     kind: Kind,
@@ -139,13 +161,15 @@ pub fn distances(
     }
 }
 
+fn twice(agree: bool) -> f64
+    ensures { λ r. ⌜ r ≡ cond agree (neg two) two ⌝ }
+{
+    if agree { -2.0 } else { 2.0 }
+}
+
 // The curvature of a pair before the floor: di and dj are the diagonals, r is the entry of row i at j.
 pub fn quad_coef(agree: bool, di: f64, dj: f64, r: f64) -> f64
     ensures { λ q. ⌜ q ≡ curved agree di dj r ⌝ }
 {
-    if agree {
-        di + dj - 2.0 * r
-    } else {
-        di + dj + 2.0 * r
-    }
+    di + dj + twice(agree) * r
 }

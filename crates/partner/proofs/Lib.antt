@@ -1,3 +1,4 @@
+pub mod Calm
 pub mod Steps
 pub mod Apart
 pub mod Rule

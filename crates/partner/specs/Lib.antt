@@ -1,4 +1,5 @@
 pub mod Sides
+pub mod Stirred
 pub mod Curvature
 pub mod Second
 pub mod Lead

@@ -9,6 +9,7 @@ ghost use Rattle.extreme.specs.Best.{Below, nobody as nobodyAt};
 ghost use Rattle.kernel.specs.Row.{Indexed};
 ghost use Rattle.state.specs.Lists.{problem, state, Ready};
 ghost use Rattle.partner.specs.Sides.{risesOf, fallsOf, riseOf, fallOf};
+ghost use Rattle.partner.specs.Stirred.{stirred};
 ghost use Rattle.partner.specs.Curvature.{curvature, gapOf, gain};
 ghost use Rattle.partner.specs.Second.{leads, second, paired, choice};
 ghost use Rattle.partner.specs.Lead.{leadAt, curveOf, gainAfter, racedAfter, racedTo};
@@ -45,6 +46,17 @@ pub fn fall_of(pos: bool, g: f64) -> f64
     ensures { λ r. ⌜ r ≡ fallOf pos g ⌝ }
 {
     if pos { g } else { -g }
+}
+
+// Whether gradient g stirs an extreme: where the weight may grow, -g is to reach up, and where it may shrink, g is to reach low.
+// A weight at lower isn't asked whether it is at upper too.
+pub fn stirs(g: f64, w: Alpha, up: f64, low: f64) -> bool
+    ensures { λ r. ⌜ r ≡ stirred g w up low ⌝ }
+{
+    if w.reached_lower() {
+        return -g >= up;
+    }
+    (g >= low) | ((-g >= up) & !w.reached_upper())
 }
 
 fn curvature_of(floor: f64, a: f64, b: f64, r: f64, agree: bool) -> f64

@@ -232,9 +232,9 @@ fn shift(
     let li = y[i];
     let lj = y[j];
     for k in 0..active {
-        let ri = kernel::reach(kind, m, side, ci, li, u, n, y, k);
-        let rj = kernel::reach(kind, m, side, cj, lj, u, n, y, k);
-        f[k] = f[k] + (ri * xi + rj * xj);
+        let di = kernel::pull(kind, m, side, ci, li, u, n, y, k, xi);
+        let dj = kernel::pull(kind, m, side, cj, lj, u, n, y, k, xj);
+        f[k] = f[k] + (di + dj);
     }
 }
 

@@ -1,62 +1,70 @@
-use mathlib.Core.Path.{sym, _∙_}
+use Prim.Native.Nat.{_≤_, _-_}
+use mathlib.Core.Logic.{⊎-elim}
+use mathlib.Core.Path.{_≡_, refl, sym, _∙_}
+use native.Mathlib.Numerals.{add-one}
 use native.Mathlib.Omega.{arith}
 use denote.Ref.{now}
-use Rattle.rounding.proofs.Order.{both, holds}
+use lib.Ieee.{nan, ofBits, div, neg}
+use lib.ListN.{getD}
+use Rattle.extreme.specs.Best.{best}
+use Rattle.kernel.specs.declared.Kind.the-variants.{TwoClass}
+use Rattle.state.specs.Fields.{alphaIn, positive}
 use Rattle.state.specs.Lists.{problem, state}
-use Rattle.choose_c.proofs.Won.{rise-won, fall-won}
+use Rattle.choose_c.specs.Choice.{extremesC}
+use Rattle.choose_c.proofs.Calm.{calm}
 use borrow.Author.Needs.{needs}
 use Rattle.choose_c.proofs.max_violating_pair.Statement.{statement}
 use Rattle.choose_c.proofs.max_violating_pair.Tie as tie
 
-rise-at-requires : tie.Need-rise-at-requires
-rise-at-requires c κs =
-    let z = c .before .before .before .before .before .before .before .before .before .before in
-    let a = z .args in
-    let p = problem (a .n) (a .side) (a .kind) (now (a .m)) in
-    let s = state (now (a .f)) (now (a .u)) (now (a .y)) in
-    let t = both _ _ (c .if1 .taken) in
-    let r = c .before .before .before .before .before .races .ensures in
-    let up = holds _ .1 (rw r at (sym (c .before .before .off-the-start .ensures) ∙ t .0)) in
-    let down = holds _ .1 (rw r at (sym (c .before .off-the-start2 .ensures) ∙ t .1)) in
-    let w = rise-won p s (a .active) up in
-    (rw r (omega (arith, w .0, z .pre .1)), z .pre .0 .indexed .small, z .pre .0 .floats, z .pre .0 .labels)
+-- no extreme asks for the kind
+abbrev Inv-loop : tie.InvT-loop
+Inv-loop f u y n side m active e₀ k₀ e k = (k ≤ active) × (e ≡ extremesC (problem n side TwoClass m) (state f u y) k)
 
-fall-at-requires : tie.Need-fall-at-requires
-fall-at-requires c κs =
-    let z = c .before .before .before .before .before .before .before .before .before .before .before .before in
-    let a = z .args in
-    let p = problem (a .n) (a .side) (a .kind) (now (a .m)) in
-    let s = state (now (a .f)) (now (a .u)) (now (a .y)) in
-    let t = both _ _ (c .before .before .if1 .taken) in
-    let r = c .before .before .before .before .before .before .before .races .ensures in
-    let up = holds _ .1 (rw r at (sym (c .before .before .before .before .off-the-start .ensures) ∙ t .0)) in
-    let down = holds _ .1 (rw r at (sym (c .before .before .before .off-the-start2 .ensures) ∙ t .1)) in
-    let w = fall-won p s (a .active) down in
-    (rw r (omega (arith, w .0, z .pre .1)), z .pre .0 .indexed .small, z .pre .0 .floats, z .pre .0 .labels)
+abbrev μ-loop : tie.MeasureT-loop
+μ-loop f u y n side m active e₀ k₀ e k = active - k
 
-returns : tie.Need-returns
+loop-holds : tie.Need-loop-holds Inv-loop μ-loop
+unfolding extremesC best div neg ofBits
+loop-holds c = (search needs, refl)
+
+loop-again : tie.Need-loop-again Inv-loop μ-loop
+unfolding extremesC best
+loop-again c =
+    let a = c .before .before .before .before .before .before .before .before .before .before .before .args in
+    let k = c .before .before .before .before .before .before .loop .k in
+    let s = state (now (a .f)) (now (a .u)) (now (a .y)) in
+    let e = extremesC (problem (a .n) (a .side) TwoClass (now (a .m))) s k in
+    let inv = c .before .before .before .before .before .before .loop .inv .1 in
+    (search needs, ⊎-elim
+    (λ w. rw (w .4, add-one, w .3 .ensures, c .before .before .before .before .alpha-at .ensures, inv))
+    (λ w.
+    let h = rw (c .before .before .before .before .alpha-at .ensures, inv) at (sym (c .before .stirs .ensures) ∙ w .0 .left) in
+    rw (w .1, add-one, inv) (sym (calm e k (positive s k) (getD (now (a .f)) k nan) (alphaIn (a .n) (now (a .f)) k) h)))
+    (c .if1 .came))
+
+returns : tie.Need-returns Inv-loop μ-loop
+unfolding extremesC
 returns c =
-    let z = c .before .before .before .before .before .before .before .before .before .before .before .before .before .before in
-    let a = z .args in
-    let p = problem (a .n) (a .side) (a .kind) (now (a .m)) in
-    let s = state (now (a .f)) (now (a .u)) (now (a .y)) in
-    let t = both _ _ (c .before .before .before .before .if1 .taken) in
-    let r = c .before .before .before .before .before .before .before .before .before .races .ensures in
-    let up = holds _ .1 (rw r at (sym (c .before .before .before .before .before .before .off-the-start .ensures) ∙ t .0)) in
-    let down = holds _ .1 (rw r at (sym (c .before .before .before .before .before .off-the-start2 .ensures) ∙ t .1)) in
-    rw (rise-won p s (a .active) up .1, fall-won p s (a .active) down .1, c .held2 .ensures, c .before .before .held .ensures, c .before .fall-at .ensures, c .before .before .before .rise-at .ensures, r)
+    let e : c .before .loop .k ≡ c .before .before .before .before .before .before .args .active = omega arith in
+    rw e at (c .before .loop .inv .1)
 
 pub max-violating-pair-spec : {M : Type 1} → statement M
 max-violating-pair-spec =
     tie.close
     (tie.spec
+    Inv-loop
+    μ-loop
+    loop-holds
     (λ c κs. search needs)
+    (λ c. search needs)
+    (λ c. search needs)
+    (λ c. search needs)
     (λ c κs. search needs)
+    (λ c. search needs)
+    (λ c. search needs)
+    (λ c. search needs)
     (λ c κs. search needs)
-    rise-at-requires
-    (λ c κs. search needs)
-    fall-at-requires
-    (λ c κs. search needs)
-    returns
-    (λ c κs. search needs)
-    (λ c. search needs))
+    (λ c. search needs)
+    (λ c. search needs)
+    loop-again
+    returns)

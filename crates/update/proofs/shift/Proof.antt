@@ -25,14 +25,14 @@ loop-holds c =
     let z = c .before .before .index-at2 .ensures in
     (search needs, refl, refl, x .1, x .0, z .1, z .0)
 
-reach-requires : tie.Need-reach-requires Inv-loop μ-loop
-reach-requires c κs =
+pull-requires : tie.Need-pull-requires Inv-loop μ-loop
+pull-requires c κs =
     let s = c .before .before .before .before .before .before .before .before .before .before in
     let v = c .before .loop .inv in
     (s .pre .0 .matrix, s .pre .0 .indexed, s .pre .0 .labels, v .3, omega arith)
 
-reach-requires-2 : tie.Need-reach-requires-2 Inv-loop μ-loop
-reach-requires-2 c κs =
+pull-requires-2 : tie.Need-pull-requires-2 Inv-loop μ-loop
+pull-requires-2 c κs =
     let s = c .before .before .before .before .before .before .before .before .before .before .before in
     let v = c .before .before .loop .inv in
     (s .pre .0 .matrix, s .pre .0 .indexed, s .pre .0 .labels, v .5, omega arith)
@@ -41,7 +41,7 @@ loop-again : tie.Need-loop-again Inv-loop μ-loop
 unfolding shiftedTo rowAt
 loop-again c =
     let v = c .before .before .before .before .loop .inv in
-    (search needs, search needs, rw (add-one, ← v .2, ← v .4, ← v .6, ← c .before .before .reach .ensures, ← c .before .reach2 .ensures), v .3, v .4, v .5, v .6)
+    (search needs, search needs, rw (add-one, ← v .2, ← v .4, ← v .6, c .before .before .pull .ensures, c .before .pull2 .ensures), v .3, v .4, v .5, v .6)
 
 returns : tie.Need-returns Inv-loop μ-loop
 returns c =
@@ -59,8 +59,8 @@ shift-spec =
     (λ c. search needs)
     (λ c. search needs)
     loop-holds
-    reach-requires
-    reach-requires-2
+    pull-requires
+    pull-requires-2
     (λ c. search needs)
     (λ c. search needs)
     (λ c. search needs)
