@@ -34,13 +34,15 @@ loop-again c =
     let k = c .before .before .before .before .before .before .loop .k in
     let s = state (now (a .f)) (now (a .u)) (now (a .y)) in
     let e = extremesC (problem (a .n) (a .side) TwoClass (now (a .m))) s k in
-    let inv = c .before .before .before .before .before .before .loop .inv .1 in
-    (search needs, ⊎-elim
-    (λ w. rw (w .4, add-one, w .3 .ensures, c .before .before .before .before .alpha-at .ensures, inv))
-    (λ w.
-    let h = rw (c .before .before .before .before .alpha-at .ensures, inv) at (sym (c .before .stirs .ensures) ∙ w .0 .left) in
-    rw (w .1, add-one, inv) (sym (calm e k (positive s k) (getD (now (a .f)) k nan) (alphaIn (a .n) (now (a .f)) k) h)))
-    (c .if1 .came))
+    let inv = c .before .before .before .before .before .before .loop .inv .1 in (
+      search needs,
+      ⊎-elim
+          (λ w. rw (w .4, add-one, w .3 .ensures, c .before .before .before .before .alpha-at .ensures, inv))
+          (λ w.
+          let h = rw (c .before .before .before .before .alpha-at .ensures, inv) at (sym (c .before .stirs .ensures) ∙ w .0 .left) in
+          rw (w .1, add-one, inv) (sym (calm e k (positive s k) (getD (now (a .f)) k nan) (alphaIn (a .n) (now (a .f)) k) h)))
+          (c .if1 .came),
+    )
 
 returns : tie.Need-returns Inv-loop μ-loop
 unfolding extremesC

@@ -1,4 +1,3 @@
-use mathlib.Core.Path.{_≡_}
 use borrow.Author.Needs.{needs}
 use Rattle.kernel.proofs.Laws.{curved-once}
 use Rattle.kernel.proofs.quad_coef.Statement.{statement}
