@@ -41,7 +41,35 @@ fn stirs(e: Extremes, pos: bool, g: f64, w: Alpha) -> bool
     }
 }
 
-// The largest rise and the largest fall of the active positions. Most positions don't stir, and are asked no more.
+// The first position from here on that stirs, or active: nobody before it changes an extreme.
+fn calm_to(
+    f: &[f64],
+    u: &[u64],
+    y: &[u8],
+    n: usize,
+    side: usize,
+    kind: Kind,
+    m: &[u8],
+    from: usize,
+    active: usize,
+    e: Extremes,
+) -> usize
+    requires { ⌜ (Ready (problem n side kind (now m)) (state (now f) (now u) (now y))) × (active ≤ n) × (from ≤ active)
+        × (e ≡ extremesC (problem n side kind (now m)) (state (now f) (now u) (now y)) from) ⌝ }
+    ensures { λ r. ⌜ (from ≤ r) × (r ≤ active) × (e ≡ extremesC (problem n side kind (now (m .entry)))
+        (state (now (f .entry)) (now (u .entry)) (now (y .entry))) r) ⌝ }
+{
+    let mut k = from;
+    while k < active {
+        if stirs(e, y[k] == 1, f[k], state::alpha_at(f, n, k)) {
+            return k;
+        }
+        k += 1;
+    }
+    k
+}
+
+// The largest rise and the largest fall of the active positions. Of most positions nothing more is asked than whether they stir.
 pub fn max_violating_pair(
     f: &[f64],
     u: &[u64],
@@ -64,10 +92,12 @@ pub fn max_violating_pair(
         gmax1: none,
         gmax2: none,
     };
-    for k in 0..active {
-        let w = state::alpha_at(f, n, k);
-        if stirs(e, y[k] == 1, f[k], w) {
-            e = weighed(e, k, y[k] == 1, f[k], w);
+    let mut k = 0;
+    while k < active {
+        k = calm_to(f, u, y, n, side, kind, m, k, active, e);
+        if k < active {
+            e = weighed(e, k, y[k] == 1, f[k], state::alpha_at(f, n, k));
+            k += 1;
         }
     }
     e

@@ -56,7 +56,35 @@ fn stirs(es: [Extreme; 4], pos: bool, g: f64, w: Alpha) -> bool
     }
 }
 
-// The four extremes of the active positions. Most positions don't stir, and are asked no more.
+// The first position from here on that stirs, or active: nobody before it changes an extreme.
+fn calm_to(
+    f: &[f64],
+    u: &[u64],
+    y: &[u8],
+    n: usize,
+    side: usize,
+    kind: Kind,
+    m: &[u8],
+    from: usize,
+    active: usize,
+    es: [Extreme; 4],
+) -> usize
+    requires { ⌜ (Ready (problem n side kind (now m)) (state (now f) (now u) (now y))) × (active ≤ n) × (from ≤ active)
+        × (es ≡ extremesNu (problem n side kind (now m)) (state (now f) (now u) (now y)) from) ⌝ }
+    ensures { λ r. ⌜ (from ≤ r) × (r ≤ active) × (es ≡ extremesNu (problem n side kind (now (m .entry)))
+        (state (now (f .entry)) (now (u .entry)) (now (y .entry))) r) ⌝ }
+{
+    let mut k = from;
+    while k < active {
+        if stirs(es, y[k] == 1, f[k], state::alpha_at(f, n, k)) {
+            return k;
+        }
+        k += 1;
+    }
+    k
+}
+
+// The four extremes of the active positions. Of most positions nothing more is asked than whether they stir.
 pub fn max_violating_pair_nu(
     f: &[f64],
     u: &[u64],
@@ -76,11 +104,13 @@ pub fn max_violating_pair_nu(
         holder: Found::Nobody,
     };
     let mut es = [none; 4];
-    for k in 0..active {
-        let w = state::alpha_at(f, n, k);
-        if stirs(es, y[k] == 1, f[k], w) {
-            let t = weighed(es, k, y[k] == 1, f[k], w);
+    let mut k = 0;
+    while k < active {
+        k = calm_to(f, u, y, n, side, kind, m, k, active, es);
+        if k < active {
+            let t = weighed(es, k, y[k] == 1, f[k], state::alpha_at(f, n, k));
             es = t;
+            k += 1;
         }
     }
     es
