@@ -1,12 +1,12 @@
 """The proved trainer of a sorter, for Python: the four functions of include/altuliscia.h.
 
-It needs the library as a shared object, for x86-64, which is made from the archive at the root of the repository by
+It needs the library as a shared object, which is made on x86-64 from the archive at the root of the repository by
 
     rt staticlib altuliscia
     cc -shared -o target/staticlib/libaltuliscia.so \\
         -Wl,--whole-archive target/staticlib/libaltuliscia.a -Wl,--no-whole-archive
 
-and is looked for under the name that the environment variable ALTULISCIA_SO gives, else beside this file, else in
+(on aarch64 of the archive that `tools/native target/native` writes) and is looked for under the name that the environment variable ALTULISCIA_SO gives, else beside this file, else in
 target/staticlib. Nothing but Python's standard library is used.
 
     >>> import altuliscia

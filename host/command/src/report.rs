@@ -12,15 +12,15 @@ fn six(x: f64) -> String {
     }
 }
 
-/// Whether a sample's weight is at its ceiling.
+/// Whether a sample's weight is at its ceiling. Where r makes it 0 or infinite, nothing is.
 fn at_ceiling(s: &Samples, fit: Fit, ceilings: (f64, f64), answer: &Answer, k: usize) -> bool {
     let ceiling = match (fit, answer.r, s.labels.get(k)) {
-        // The nu fit divides its weights, and so their ceiling, by r.
-        (Fit::Nu, Some(r), _) => 1.0 / r,
+        // The nu fit divides its weights, and so their ceiling, by r, which may be negative.
+        (Fit::Nu, Some(r), _) => (1.0 / r).abs(),
         (_, _, Some(0)) => ceilings.1,
         _ => ceilings.0,
     };
-    answer.home[k].abs() >= ceiling
+    ceiling > 0.0 && ceiling.is_finite() && answer.home[k].abs() >= ceiling
 }
 
 fn differs(answer: &Answer, k: usize) -> bool {

@@ -76,6 +76,26 @@ fn a_model_is_written_and_told() {
 }
 
 #[test]
+fn a_ceiling_divided_by_r_has_no_sign() {
+    let f = folder("negative-r");
+    let negative = file(&f, "k.txt", b"1 0:1 1:-1 2:0\n2 0:2 1:0 2:-1\n");
+    let text = told("train -s 1 -n 0.5 FILE MODEL", &negative, "/dev/null").unwrap();
+    assert!(
+        text.contains("C = -2.000000\n") && text.contains("nSV = 2, nBSV = 0\n"),
+        "{}",
+        text
+    );
+    // r is infinite, and every weight is 0
+    let infinite = file(&f, "small.txt", SMALL.as_bytes());
+    let text = told("train -s 1 -n 1 FILE MODEL", &infinite, "/dev/null").unwrap();
+    assert!(
+        text.contains("C = 0.000000\n") && text.contains("nSV = 0, nBSV = 0\n"),
+        "{}",
+        text
+    );
+}
+
+#[test]
 fn costs_are_multiplied_by_label() {
     let f = folder("costs");
     let path = file(&f, "small.txt", SMALL.as_bytes());
