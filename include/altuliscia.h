@@ -15,8 +15,8 @@
  * nothing at all is written, and the result is 1 (where n is bad) or 2.
  *
  * crate_reading is the list that the Rust crate linfa-svm answers: place i has the weight at position order[i]. home gives each
- * sample the weight that was trained for it: that is the one to ask for a sample's weight. They differ where samples were moved
- * and the order isn't its own inverse.
+ * sample the weight that was trained for it: that is the one to ask for a sample's weight. They can differ only where samples were
+ * moved and the order isn't its own inverse.
  *
  * Threads and stack. A call keeps no state and shares nothing: calls from several threads may overlap in time. It asks for no
  * memory but its stack, of which it needs less than ALTULISCIA_STACK_BYTES (60009 were measured), and calls nothing from outside
@@ -74,7 +74,7 @@ enum altuliscia_refusal {
     /* A label is neither 0 nor 1: the index is its sample; write 1 for positive, 0 for negative. */
     ALTULISCIA_BAD_LABEL = 4,
     /* A ceiling is NaN, not above 0 or above 2^1000: the index is its sample, in the C entry 0 for cpos and 1 for cneg; give a
-     * ceiling above 0. */
+     * ceiling above 0 and not above 2^1000. */
     ALTULISCIA_BAD_CEILING = 5,
     /* A start alpha is NaN, below 0 or above its ceiling: the index is its sample; start within 0 and the ceiling. */
     ALTULISCIA_BAD_ALPHA = 6,

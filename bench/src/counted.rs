@@ -12,7 +12,9 @@ pub struct Counted {
 pub fn counted(folder: &Path, file: &Path, who: &str, function: &str) -> Option<Counted> {
     let out = folder.join(format!("callgrind.{who}"));
     let status = Command::new("valgrind")
-        .args(["--tool=callgrind", "--quiet"])
+        .args(["--tool=callgrind", "--quiet", "--separate-recs=1"])
+        // On aarch64 what follows a malloc would be counted to it.
+        .arg("--fn-skip=malloc")
         .arg(format!("--callgrind-out-file={}", out.display()))
         .arg(format!("--toggle-collect={function}"))
         .arg(std::env::current_exe().ok()?)

@@ -196,7 +196,7 @@ fn instructions(b: &Beside, rows: &[Row]) -> String {
         ];
         text += &format!("| {} |\n", cells.join(" | "));
     }
-    text += "\nBy function, without what it calls, where it is one in a hundred or more. What the compiler put into its caller counts there.\n\n| who | function | instructions | of all |\n|---|---|---|---|\n";
+    text += "\nBy function, without what it calls, where it is one in a hundred or more. What the compiler put into its caller counts there, and so does `malloc`.\n\n| who | function | instructions | of all |\n|---|---|---|---|\n";
     for (who, count) in WHO.iter().zip(b.counts) {
         let Some(count) = count else { continue };
         for (name, part) in &count.parts {

@@ -45,7 +45,7 @@ _SENTENCES = {
        "that entry.",
     4: "A label is neither 0 nor 1: the index is its sample; write 1 for positive, 0 for negative.",
     5: "A ceiling is NaN, not above 0 or above 2^1000: the index is its sample, in the C entry 0 for cpos and 1 for cneg; give a "
-       "ceiling above 0.",
+       "ceiling above 0 and not above 2^1000.",
     6: "A start alpha is NaN, below 0 or above its ceiling: the index is its sample; start within 0 and the ceiling.",
     7: "A linear term is NaN or infinite: the index is its sample; give a finite one.",
     8: "The threshold eps is NaN, infinite or has its sign bit set: give 0 or a finite number above it.",

@@ -33,7 +33,7 @@ pub record Read : Type 0 where
 abbrev pub read : Outcome → List Float → List Float → Read
 read o c h = record { out = o; crate = c; home = h }
 
--- one reading d of a run that ended, as it is answered
+-- the answer of a run that ended: v is rho and r, home its own reading
 abbrev pub answerOf : Given → Finish → ℕ → Full → Level → List Float → Answer
 answerOf g how budget w v home = record {
   rho = rhoOf how v;

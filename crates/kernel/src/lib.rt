@@ -139,7 +139,7 @@ pub fn distance(
     reach(kind, m, side, index_at(u, side, n, i), y[i], u, n, y, k)
 }
 
-// The first places of row i, up to length, into the seventh field of f.
+// The first count places of row i, into the seventh field of f.
 pub fn distances(
     f: &mut [f64],
     kind: Kind,

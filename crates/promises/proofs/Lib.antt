@@ -5,3 +5,4 @@ pub mod Box
 pub mod Entries
 pub mod Starts
 pub mod Boxes
+pub mod Numbers

@@ -108,7 +108,7 @@ impl Refusal {
             Refusal::Length => "A list has the wrong length: lend a matrix of 8*n*n bytes, n labels, 8n bytes for each list of doubles, at least 8n bytes for each result list and at least 72 for the answer.",
             Refusal::Kernel { .. } => "A kernel entry is NaN, infinite or above 2^1000 in magnitude: the index is column*n + row; scale the kernel down or mend that entry.",
             Refusal::Label { .. } => "A label is neither 0 nor 1: the index is its sample; write 1 for positive, 0 for negative.",
-            Refusal::Ceiling { .. } => "A ceiling is NaN, not above 0 or above 2^1000: the index is its sample, in the C entry 0 for cpos and 1 for cneg; give a ceiling above 0.",
+            Refusal::Ceiling { .. } => "A ceiling is NaN, not above 0 or above 2^1000: the index is its sample, in the C entry 0 for cpos and 1 for cneg; give a ceiling above 0 and not above 2^1000.",
             Refusal::Alpha { .. } => "A start alpha is NaN, below 0 or above its ceiling: the index is its sample; start within 0 and the ceiling.",
             Refusal::Linear { .. } => "A linear term is NaN or infinite: the index is its sample; give a finite one.",
             Refusal::Eps => "The threshold eps is NaN, infinite or has its sign bit set: give 0 or a finite number above it.",

@@ -227,7 +227,7 @@ fn a_check_names_every_fault() {
         (13, "this problem would be refused")
     );
     let kernel = "A kernel entry is NaN, infinite or above 2^1000 in magnitude: the index is column*n + row; scale the kernel down or mend that entry.";
-    let ceiling = "A ceiling is NaN, not above 0 or above 2^1000: the index is its sample, in the C entry 0 for cpos and 1 for cneg; give a ceiling above 0.";
+    let ceiling = "A ceiling is NaN, not above 0 or above 2^1000: the index is its sample, in the C entry 0 for cpos and 1 for cneg; give a ceiling above 0 and not above 2^1000.";
     let expected = [
         format!("{}:1: refusal 3 at index 0: {}", path, kernel),
         format!("{}:2: refusal 3 at index 3: {}", path, kernel),

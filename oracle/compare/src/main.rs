@@ -15,7 +15,7 @@ compare c FIRST LAST
     lists, every byte that must stay, refusals with their index, short answers and wrong lengths
 compare recorded FILE
     the proved run by itself, on the recorded general problems: order and weights by position, rho, r, obj, iterations, reason,
-    refusal 11, and the pair and weights of the first 64 passes
+    refusal 11, and the pair and weights of each pass that is recorded
 compare captions FILE..
     the C functions on real captions: the first 64, 128, 256 and 512 of each file of captions/make.py, shrinking off and on
 What the runs reached is counted. The exit status is 1 where one differs, or where 5000 seeds or more didn't reach everything.";

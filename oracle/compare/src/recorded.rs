@@ -4,9 +4,6 @@ use oracle::problem::{Entry, Problem};
 use oracle::record::{read, Told};
 use oracle::run::canonical;
 
-/// Of longer runs the first passes are compared one by one, and the end.
-const MOST_PASSES: u64 = 64;
-
 #[derive(Default)]
 struct Counts {
     records: u64,
@@ -63,7 +60,7 @@ fn end_differs(p: &Problem, told: &Told, ran: &Ran) -> Option<&'static str> {
 /// The first pass whose pair doesn't have the recorded weights, if there is one.
 fn pass_differs(p: &Problem, told: &Told, counts: &mut Counts) -> Option<u64> {
     let n = p.n as usize;
-    for (k, step) in told.trace.iter().enumerate().take(MOST_PASSES as usize) {
+    for (k, step) in told.trace.iter().enumerate() {
         let passes = k as u64 + 1;
         let mut q = p.clone();
         q.budget = passes;

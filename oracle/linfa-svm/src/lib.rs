@@ -1,8 +1,8 @@
 //! The published solver, compiled as it stands over small stand-ins.
 //!
-//! `solver_smo` and `permutable_kernel` are the published files with added
-//! lines, each of which ends in `// oracle`. `classification`, `regression`
-//! and this file hold parts of the published files, word for word, between a
+//! `permutable_kernel` is the published file, and `solver_smo` the published
+//! file with added lines, each of which ends in `// oracle`. `classification`,
+//! `regression` and this file hold parts of the published files, word for word, between a
 //! line `// published: NAME` and a line `// end`. A test compares all of it
 //! with the published texts byte for byte.
 
