@@ -6,8 +6,9 @@ It needs the library as a shared object, which is made on x86-64 from the archiv
     cc -shared -o target/staticlib/libaltuliscia.so \\
         -Wl,--whole-archive target/staticlib/libaltuliscia.a -Wl,--no-whole-archive
 
-(on aarch64 of the archive that `tools/native target/native` writes) and is looked for under the name that the environment variable ALTULISCIA_SO gives, else beside this file, else in
-target/staticlib. Nothing but Python's standard library is used.
+(on aarch64 of the archive that `tools/native target/native` writes, in target/native). It is looked for under the name that the
+environment variable ALTULISCIA_SO gives, else beside this file, else in target/native, else in target/staticlib. Nothing but
+Python's standard library is used.
 
     >>> import altuliscia
     >>> fit = altuliscia.fit_c([[1, 0], [0, 1]], [1, 0])
@@ -26,6 +27,7 @@ double (array.array("d"), bytes, a float64 array of numpy, whose rows are taken 
 1 (positive) and 0 (negative). What is refused is told by a Refusal, which is a ValueError; what is no number at all, by a TypeError.
 """
 import ctypes
+import numbers
 import operator
 import os
 import struct
@@ -131,8 +133,8 @@ def fit_nu(matrix, labels, nu=0.5, *, eps=1e-7, shrinking=False, budget=MOST_PAS
 
 
 def fit_one_class(matrix, nu=0.5, *, n=None, eps=1e-7, shrinking=False, budget=MOST_PASSES):
-    """Trains one class with nu, above 0 and not above 1. A matrix that isn't in columns (bytes, array.array) needs n beside it. For the
-    rest see fit_c; `n_iter_` is a list here, too."""
+    """Trains one class with nu, above 0 and not above 1. A matrix that isn't in columns (bytes, array.array, a flat list) needs n
+    beside it. For the rest see fit_c; `n_iter_` is a list here, too."""
     n = _columns(matrix) if n is None else operator.index(n)
     if not 0 <= n < 1 << 64:
         raise Refusal(1, 0)
@@ -155,26 +157,31 @@ def _bits(number):
 
 
 def _labels(labels):
-    """The labels as bytes. What doesn't fit a byte never reaches the library."""
-    marks = list(labels)
-    if not all(mark in range(256) for mark in marks):
-        raise ValueError("a label is 1 or 0")
-    return bytes(int(mark) for mark in marks)
+    """The labels as bytes. A number that is neither 0 nor 1 is lent as 2, which is refused as it would be."""
+    return bytes(_label(mark) for mark in labels)
 
 
-def _view(numbers):
+def _label(mark):
+    if mark in (0, 1):
+        return int(mark)
+    if isinstance(mark, numbers.Number):
+        return 2
+    raise TypeError(f"a label is the number 1 or 0, not {mark!r:.40}")
+
+
+def _view(given):
     """What holds bytes, as a view of them; None where it is something else."""
     try:
-        return memoryview(numbers)
+        return memoryview(given)
     except TypeError:
         return None
 
 
-def _doubles(numbers):
+def _doubles(given):
     """The bytes of a list of doubles."""
-    view = _view(numbers)
+    view = _view(given)
     if view is None:
-        return array("d", numbers).tobytes()
+        return array("d", given).tobytes()
     if view.format not in ("d", "<d", "B", "b", "c"):
         raise TypeError(f"doubles or bytes are needed, not what has the format {view.format!r}")
     return view.tobytes()
@@ -183,9 +190,17 @@ def _doubles(numbers):
 def _columns(matrix):
     """How many columns a matrix has."""
     view = _view(matrix)
-    if view is not None and view.ndim != 2:
-        raise ValueError("a matrix that isn't in columns needs n beside it")
+    if view is None:
+        flat = len(matrix) > 0 and not _in_columns(matrix)
+    else:
+        flat = view.ndim != 2
+    if flat:
+        raise ValueError("a list of columns is needed; a matrix that isn't in columns (bytes, a flat list) needs n beside it")
     return len(matrix)
+
+
+def _in_columns(given):
+    return any(hasattr(column, "__len__") for column in given)
 
 
 def _matrix(matrix, n):
@@ -195,7 +210,7 @@ def _matrix(matrix, n):
     if view is not None:
         return _doubles(matrix) if view.ndim == 1 or view.shape == (n, n) else b""
     columns = list(matrix)
-    if not any(hasattr(column, "__len__") for column in columns):
+    if not _in_columns(columns):
         return _doubles(columns)
     if len(columns) != n or not all(hasattr(column, "__len__") and len(column) == n for column in columns):
         return b""
@@ -234,7 +249,9 @@ def _library():
     if _loaded is None:
         here = os.path.dirname(os.path.abspath(__file__))
         name = "libaltuliscia.so"
-        places = [os.path.join(here, name), os.path.join(here, "..", "..", "target", "staticlib", name)]
+        target = os.path.join(here, "..", "..", "target")
+        folders = (here, os.path.join(target, "native"), os.path.join(target, "staticlib"))
+        places = [os.path.join(folder, name) for folder in folders]
         places = [os.environ["ALTULISCIA_SO"]] if "ALTULISCIA_SO" in os.environ else places
         path = next((place for place in places if os.path.exists(place)), None)
         if path is None:

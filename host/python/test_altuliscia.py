@@ -5,6 +5,7 @@ import os
 import re
 import unittest
 from array import array
+from unittest import mock
 
 import altuliscia
 from altuliscia import Refusal, fit_c, fit_general, fit_nu, fit_one_class
@@ -106,10 +107,12 @@ class Refusals(unittest.TestCase):
         for n in (-1, 0, 513, 1 << 64, (1 << 64) + 2):
             self.refused(1, 0, fit_one_class, IDENTITY, n=n)
         self.refused(2, 0, fit_one_class, IDENTITY, n=3)
-        for flat in (array("d", [1, 0, 0, 1]), bytes(32)):
+        told = "a list of columns is needed; a matrix that isn't in columns (bytes, a flat list) needs n beside it"
+        for flat in (array("d", [1, 0, 0, 1]), bytes(32), [1, 0, 0, 1]):
             with self.assertRaises(ValueError) as caught:
                 fit_one_class(flat)
-            self.assertEqual(str(caught.exception), "a matrix that isn't in columns needs n beside it")
+            self.assertEqual(str(caught.exception), told)
+        self.assertEqual(fit_one_class([1, 0, 0, 1], n=2).home, fit_one_class(IDENTITY).home)
 
     def test_no_numbers(self):
         for given, options, told in (
@@ -138,15 +141,33 @@ class Refusals(unittest.TestCase):
         self.assertEqual(str(Refusal(11, 0)), f"refusal 11: {found[11]}")
 
     def test_labels(self):
-        for label in (-1, 256, 0.5, math.nan, "1"):
-            with self.assertRaises(ValueError) as caught:
+        for label in (-1, 2, 256, 1 << 2000, 0.5, math.nan):
+            self.refused(4, 1, fit_c, IDENTITY, [1, label])
+        self.refused(4, 0, fit_nu, IDENTITY, [-1, 3])
+        # In the library's order: what it looks at first is told first.
+        self.refused(3, 0, fit_c, [[math.nan, 0], [0, 1]], [1, -1])
+        for label in ("1", None):
+            with self.assertRaises(TypeError) as caught:
                 fit_c(IDENTITY, [1, label])
-            self.assertEqual(str(caught.exception), "a label is 1 or 0")
+            self.assertEqual(str(caught.exception), f"a label is the number 1 or 0, not {label!r}")
         self.assertEqual(fit_c(IDENTITY, [1.0, 0.0]).home, [1.0, -1.0])
 
     def test_other_numbers_than_doubles(self):
         with self.assertRaises(TypeError):
             fit_c(array("f", [1, 0, 0, 1]), [1, 0])
+
+    def test_places_of_the_shared_object(self):
+        words = " ".join(altuliscia.__doc__.split())
+        self.assertIn("ALTULISCIA_SO gives, else beside this file, else in target/native, else in target/staticlib.", words)
+        with mock.patch.dict(os.environ), mock.patch("os.path.exists", return_value=False), mock.patch("altuliscia._loaded", None):
+            os.environ.pop("ALTULISCIA_SO", None)
+            with self.assertRaises(OSError) as caught:
+                fit_c(IDENTITY, [1, 0])
+        here = os.path.dirname(os.path.abspath(altuliscia.__file__))
+        found = re.search(r"\((.*)\)", str(caught.exception)).group(1).split(", ")
+        found = [os.path.relpath(path, here) for path in found]
+        places = ("", "../../target/native/", "../../target/staticlib/")
+        self.assertEqual(found, [place + "libaltuliscia.so" for place in places])
 
     def test_no_shared_object(self):
         kept, altuliscia._loaded = altuliscia._loaded, None

@@ -83,7 +83,7 @@ module _ {k : Fit} {m : List ℕ} {budget : ℕ} {d : Lent} {o : Whole} (v : Ser
       ap (λ (q : Whole). q .left .home) (v .same)
       ∙ settled-home (stuck (w .run .status)) g (k .how) (k .labels) budget w (d .crate) (d .home) x (sym (ap (λ (q : Whole). q .out) (v .same)) ∙ e)
 
-  served-at : (s : ℕ) → s < g .n
+  pub served-at : (s : ℕ) → s < g .n
       → getD (o .left .home) s nan ≡ coefficientOf (k .how) (getD (k .labels) s 0) (rOf k m d budget) (getD (homeReading (g .n) (w .state .numbers) weights (d .home)) s nan)
   unfolding Solved.homeOf
   served-at s h =

@@ -5,4 +5,6 @@ pub mod Box
 pub mod Entries
 pub mod Starts
 pub mod Boxes
+pub mod Still
 pub mod Numbers
+pub mod Alike

@@ -104,7 +104,8 @@ impl Default for Options {
 /// Why an accepted run ended.
 #[derive(Clone, Copy, Debug, PartialEq, Eq, Hash)]
 pub enum ExitReason {
-    /// No pair is left that breaks the conditions by eps or more.
+    /// No pair is left that breaks the conditions by eps or more; with shrinking on: among the samples still active, by the gradients as
+    /// they are kept.
     Threshold,
     /// The budget ran out.
     Iterations,

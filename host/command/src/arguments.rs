@@ -2,6 +2,7 @@
 use crate::problem::Samples;
 use crate::{help, Trouble};
 use altuliscia::MOST_PASSES;
+use std::num::IntErrorKind;
 use std::str::FromStr;
 
 #[derive(Clone, Copy, Debug, PartialEq, Eq)]
@@ -135,6 +136,14 @@ fn number<T: FromStr>(option: &str, value: &str, what: &str) -> Result<T, Troubl
     value.parse().map_err(|_| wrong())
 }
 
+/// A budget. What doesn't fit 64 bits is the most that does, which is refused as it would be.
+fn passes(option: &str, value: &str) -> Result<u64, Trouble> {
+    match value.parse::<u64>() {
+        Err(e) if *e.kind() == IntErrorKind::PosOverflow => Ok(u64::MAX),
+        _ => number(option, value, "a whole number from 0 on"),
+    }
+}
+
 fn has_value(option: &str) -> bool {
     let known = ["-s", "-t", "-c", "-n", "-e", "-h", "--budget"];
     known.contains(&option) || option.starts_with("-w")
@@ -163,7 +172,7 @@ fn set(s: &mut Settings, option: &str, value: &str) -> Result<(), Trouble> {
                 _ => return usage(format!("-h: '{}' is neither 0 nor 1", value)),
             }
         }
-        "--budget" => s.budget = number(option, value, "a whole number from 0 on")?,
+        "--budget" => s.budget = passes(option, value)?,
         _ if option.starts_with("-w") => {
             let label = number(option, &option[2..], "a label, which is a whole number")?;
             s.weights.push((label, float()?));

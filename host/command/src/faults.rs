@@ -1,5 +1,6 @@
 //! Everything about a problem that the library refuses, not only the first.
 use crate::arguments::{Fit, Settings};
+use crate::model::double;
 use crate::problem::{Samples, HEAD};
 use altuliscia::{Refusal, MOST_PASSES, MOST_SAMPLES};
 
@@ -21,18 +22,15 @@ pub fn faults(s: &Samples, settings: &Settings, ceilings: (f64, f64)) -> Vec<Fau
     let two = settings.fit != Fit::OneClass;
     let mut add = |refusal: Refusal, place: String| all.push(Fault { refusal, place });
     if s.n == 0 || s.n > MOST_SAMPLES {
-        add(Refusal::Samples, s.path.clone());
+        add(Refusal::Samples, format!("{}: {} samples", s.path, s.n));
     }
     // Files of bytes only: a text's lists are as long as they should be.
     let labels = s.labels.len() == s.n || !two && s.labels.is_empty();
     if s.n.checked_mul(s.n) != Some(s.matrix.len()) || !labels {
         add(Refusal::Length, lengths(s));
     } else {
-        for k in (0..s.matrix.len()).filter(|k| !(s.matrix[*k].abs() <= limit())) {
-            add(
-                Refusal::Kernel { index: k as u64 },
-                s.place(k / s.n, HEAD + 8 * k),
-            );
+        for (k, place) in entries(s) {
+            add(Refusal::Kernel { index: k as u64 }, place);
         }
         let after = HEAD + 8 * s.matrix.len();
         for k in (0..s.labels.len()).filter(|k| two && s.labels[*k] > 1) {
@@ -45,20 +43,48 @@ pub fn faults(s: &Samples, settings: &Settings, ceilings: (f64, f64)) -> Vec<Fau
             let class = s.classes.get(index as usize).copied().unwrap_or_default();
             add(
                 Refusal::Ceiling { index },
-                format!("-c, -w: the cost of label {} is {}", class, c),
+                format!("-c, -w: the cost of label {} is {}", class, double(c)),
             );
         }
     }
     if !settings.eps.is_finite() || settings.eps.is_sign_negative() {
-        add(Refusal::Eps, format!("-e {}", settings.eps));
+        add(Refusal::Eps, format!("-e {}", double(settings.eps)));
     }
     if settings.fit != Fit::C && !(settings.nu > 0.0 && settings.nu <= 1.0) {
-        add(Refusal::Nu, format!("-n {}", settings.nu));
+        add(Refusal::Nu, format!("-n {}", double(settings.nu)));
     }
     if settings.budget == 0 || settings.budget > MOST_PASSES {
-        add(Refusal::Budget, format!("--budget {}", settings.budget));
+        let more = if settings.budget == u64::MAX {
+            " or more"
+        } else {
+            ""
+        };
+        add(
+            Refusal::Budget,
+            format!("--budget {}{}", settings.budget, more),
+        );
     }
     all
+}
+
+/// The kernel values that are refused: the index of each and where it stands, with its word in a text.
+fn entries(s: &Samples) -> Vec<(usize, String)> {
+    let mut found = Vec::new();
+    for column in 0..s.n {
+        let line = s.lines.get(column).map_or("", String::as_str);
+        // The first two are the label and the serial number.
+        let words: Vec<&str> = line.split_ascii_whitespace().collect();
+        let all = column * s.n..(column + 1) * s.n;
+        for k in all.filter(|k| !(s.matrix[*k].abs() <= limit())) {
+            let place = s.place(column, HEAD + 8 * k);
+            let place = match words.get(1 + s.serials[k % s.n] as usize) {
+                Some(word) => format!("{}: '{}'", place, word),
+                None => place,
+            };
+            found.push((k, place));
+        }
+    }
+    found
 }
 
 /// The file of bytes, and what should stand in it where n may be.
@@ -219,7 +245,7 @@ mod tests {
                 "a: byte 40",
                 "a: byte 48",
                 "a: byte 49",
-                "-e -0",
+                "-e -0.0",
                 "--budget 0"
             ]
         );

@@ -28,7 +28,8 @@ Options, named as svm-train's where they mean the same:
 
   -s 0|1|2    two classes with a cost (0), two classes with nu (1), one class with nu (2)
               (usually 0)
-  -c COST     the most that a weight may be, for -s 0 (usually 1)
+  -c COST     the most that a weight may be, for -s 0 (usually 1); it is kept only where both
+              classes have the same cost
   -wL FACTOR  multiplies the cost of label L, for -s 0: -w1 2, -w-1 0.5
   -n NU       above 0 and not above 1, for -s 1 and -s 2 (usually 0.5)
   -e EPS      the run ends where no pair breaks the conditions by this much (usually 0.001)
@@ -37,7 +38,7 @@ Options, named as svm-train's where they mean the same:
               (docs/CAPTIONS.md)
   --budget N  the most passes, 1 to 10000000 (usually 10000000)
   -t 4        a precomputed kernel; it is the only one there is and need not be said
-  -q          says nothing where all is well
+  -q          says nothing where all is well; what isn't is told on standard error
 
 "
     };
@@ -68,8 +69,9 @@ pub const TRAIN: &str = concat!(
     "altuliscia train [OPTIONS] FILE [MODEL]
 
 Trains the problem of FILE, writes a model file and says how the run ended: the lines that
-svm-train ends with, the exit reason (threshold: no pair is left to mend; iterations: the budget
-ran out), and a note where the model is worse than it looks.
+svm-train ends with, the exit reason (threshold: no pair is left to mend, with -h 1: among the
+samples still active; iterations: the budget ran out), and a note where the model is worse than it
+looks. With -q only the notes, and the exit reason where it is iterations, are told.
 
 MODEL is what LIBSVM's svm-predict reads for a precomputed kernel. Where it isn't named it is
 FILE's name with .model, in this folder. Its weights are each sample's own (the home reading). It
@@ -84,8 +86,10 @@ pub const WEIGHTS: &str = concat!(
     "altuliscia weights [OPTIONS] FILE
 
 Trains the problem of FILE and lists every sample: its number from 0 on, its serial number in
-FILE, its label, its own weight (signed by its class), `at` where the weight is at its ceiling,
-and what the Rust crate linfa-svm says where that is another weight. No file is written.
+FILE, its label, its own weight (signed by its class), `at` where the weight is at its ceiling and
+`above` where it is above it, and what the Rust crate linfa-svm says where that is another weight.
+The exit reason, rho and the notes of `train` are told on standard error; with -q only the notes,
+and the exit reason where it is iterations. No file is written.
 
 ",
     options!(),
@@ -95,10 +99,10 @@ and what the Rust crate linfa-svm says where that is another weight. No file is 
 pub const CHECK: &str = concat!(
     "altuliscia check [OPTIONS] FILE
 
-Reads FILE and names all that the library would refuse, in FILE and in the options, a line each:
-where it stands, the refusal's number and index, and what to do. Refusal 11 can't be known
-without training. Nothing is trained and no file is written. The exit status is that of the
-lowest refusal.
+Reads FILE and names all that the library would refuse, in FILE and in the options, a line each on
+standard output: where it stands, the refusal's number and index, and what to do. Refusal 11 can't
+be known without training. Nothing is trained and no file is written. The exit status is that of
+the lowest refusal.
 
 ",
     options!(),

@@ -18,15 +18,26 @@ use arguments::{Call, Command, Fit, Settings, Words};
 use problem::Samples;
 use std::io::Write;
 
-/// Does what the words ask for and writes what it has to tell. A progress line is shown where `terminal` is true.
-pub fn run(words: &[String], out: &mut dyn Write, terminal: bool) -> Result<(), Trouble> {
+/// Does what the words ask for and writes what it has to tell: to `out`, and what shouldn't stand there to `err`. A progress line is
+/// shown on `err` where `terminal` is true.
+pub fn run(
+    words: &[String],
+    out: &mut dyn Write,
+    err: &mut (dyn Write + Send),
+    terminal: bool,
+) -> Result<(), Trouble> {
     match arguments::parse(words)? {
         Words::Help(text) => tell(out, text),
-        Words::Call(call) => carried_out(&call, out, terminal),
+        Words::Call(call) => carried_out(&call, out, err, terminal),
     }
 }
 
-fn carried_out(call: &Call, out: &mut dyn Write, terminal: bool) -> Result<(), Trouble> {
+fn carried_out(
+    call: &Call,
+    out: &mut dyn Write,
+    err: &mut (dyn Write + Send),
+    terminal: bool,
+) -> Result<(), Trouble> {
     let path = call.model_path();
     if call.command == Command::Train && save::one_file(&call.file, &path) {
         let told = format!(
@@ -35,7 +46,7 @@ fn carried_out(call: &Call, out: &mut dyn Write, terminal: bool) -> Result<(), T
         );
         return Err(Trouble::Usage(told));
     }
-    let samples = progress::shown(terminal, "reading", || {
+    let samples = progress::shown(err, terminal, "reading", || {
         problem::read(&call.file, call.settings.fit)
     })?;
     let settings = &call.settings;
@@ -53,17 +64,20 @@ fn carried_out(call: &Call, out: &mut dyn Write, terminal: bool) -> Result<(), T
     if let Some(first) = faults.into_iter().next() {
         return Err(Trouble::Refused(first.place, first.refusal));
     }
-    let answer = progress::shown(terminal, "training", || {
+    let answer = progress::shown(err, terminal, "training", || {
         trained(&samples, settings, ceilings)
     })?;
     if call.command == Command::Weights {
-        return tell(out, &report::weights(&samples, settings, ceilings, &answer));
+        tell(out, &report::weights(&samples, settings, ceilings, &answer))?;
+    } else {
+        save::whole(&path, &model::text(&samples, settings, &answer))?;
+        if !settings.quiet {
+            return tell(out, &report::summary(&samples, settings, ceilings, &answer));
+        }
     }
-    save::whole(&path, &model::text(&samples, settings, &answer))?;
-    if settings.quiet {
-        return Ok(());
-    }
-    tell(out, &report::summary(&samples, settings, ceilings, &answer))
+    // Where standard error takes nothing, there is no place left to say so.
+    let _ = err.write_all(report::beside(&samples, settings, &answer).as_bytes());
+    Ok(())
 }
 
 /// Trains a problem without faults.
@@ -95,6 +109,6 @@ fn answered(s: &Samples, settings: &Settings, (cpos, cneg): (f64, f64)) -> Resul
 }
 
 fn tell(out: &mut dyn Write, text: &str) -> Result<(), Trouble> {
-    let told = out.write_all(text.as_bytes());
+    let told = out.write_all(text.as_bytes()).and_then(|()| out.flush());
     told.map_err(|e| Trouble::telling(&e))
 }

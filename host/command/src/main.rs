@@ -1,7 +1,7 @@
 //! `altuliscia`: trains, lists and checks problem files. `altuliscia --help` says how.
 use command::Trouble;
 use std::ffi::OsString;
-use std::io::{self, BufWriter, Write};
+use std::io;
 use std::process::ExitCode;
 
 fn main() -> ExitCode {
@@ -9,17 +9,13 @@ fn main() -> ExitCode {
         .skip(1)
         .map(OsString::into_string)
         .collect();
-    let mut out = BufWriter::new(io::stdout());
-    let mut done = match words {
-        Ok(words) => command::run(&words, &mut out, on_terminal()),
+    let done = match words {
+        Ok(words) => command::run(&words, &mut io::stdout(), &mut io::stderr(), on_terminal()),
         Err(word) => {
             let told = format!("{:?} isn't UTF-8: give the file another name", word);
             Err(Trouble::Usage(told))
         }
     };
-    if let Err(e) = out.flush() {
-        done = done.and(Err(Trouble::telling(&e)));
-    }
     match done {
         Ok(()) => ExitCode::SUCCESS,
         Err(trouble) => {

@@ -22,15 +22,15 @@ pub struct Samples {
     pub classes: Vec<i32>,
     /// What the samples are called in a model file.
     pub serials: Vec<u64>,
-    /// The line of each sample; nothing in a file of bytes.
-    pub lines: Vec<usize>,
+    /// The text of each sample's line, from line 1 on; nothing in a file of bytes.
+    pub lines: Vec<String>,
 }
 
 impl Samples {
     /// Where a sample's label or matrix column stands, for a reader who looks for it.
     pub fn place(&self, sample: usize, byte: usize) -> String {
         match self.lines.get(sample) {
-            Some(line) => format!("{}:{}", self.path, line),
+            Some(_) => format!("{}:{}", self.path, sample + 1),
             None => format!("{}: byte {}", self.path, byte),
         }
     }
@@ -85,11 +85,12 @@ struct Row {
 /// A text file. An error has its line.
 fn text(path: &str, data: &[u8], fit: Fit) -> Result<Samples, (usize, String)> {
     let mut rows: Vec<Row> = Vec::new();
+    let mut kept = Vec::new();
     let data = data.strip_suffix(b"\n").unwrap_or(data);
     let lines = data.split(|byte| *byte == b'\n').enumerate();
     for (k, line) in lines.filter(|_| !data.is_empty()) {
-        let line = std::str::from_utf8(line).map_err(|_| "not a text".to_string());
-        let row = line.and_then(row).map_err(|told| (k + 1, told))?;
+        let line = std::str::from_utf8(line).map_err(|_| (k + 1, "not a text".to_string()))?;
+        let row = row(line).map_err(|told| (k + 1, told))?;
         let width = rows
             .first()
             .map_or(row.values.len(), |first| first.values.len());
@@ -106,6 +107,7 @@ fn text(path: &str, data: &[u8], fit: Fit) -> Result<Samples, (usize, String)> {
             return Err((k + 1, told));
         }
         rows.push(row);
+        kept.push(line.to_string());
     }
     let labels: Vec<i32> = rows.iter().map(|row| row.label).collect();
     let classes = match fit {
@@ -125,7 +127,7 @@ fn text(path: &str, data: &[u8], fit: Fit) -> Result<Samples, (usize, String)> {
             .collect(),
         classes,
         serials: rows.iter().map(|row| row.serial as u64).collect(),
-        lines: (1..=rows.len()).collect(),
+        lines: kept,
     })
 }
 
@@ -136,7 +138,10 @@ fn row(line: &str) -> Result<Row, String> {
     let mut serial = None;
     let mut values = Vec::new();
     for (k, word) in words.enumerate() {
-        let wrong = || format!("'{}' stands where {}:number should", word, k);
+        let wrong = || match k {
+            0 => format!("'{}' stands where 0:serial, a whole number, should", word),
+            _ => format!("'{}' stands where {}:number should", word, k),
+        };
         let (index, value) = word.split_once(':').ok_or_else(wrong)?;
         if index.parse() != Ok(k) {
             return Err(wrong());
@@ -227,7 +232,7 @@ mod tests {
                 "0:2 1:0.5",
                 "1:0.5",
                 1,
-                "'1:0.5' stands where 0:number should",
+                "'1:0.5' stands where 0:serial, a whole number, should",
             ),
             (
                 "2:0.25",
@@ -237,7 +242,12 @@ mod tests {
             ),
             ("2:0.25 ", "", 2, "'3:7' stands where 2:number should"),
             ("2:0.25", "2:x", 2, "'2:x' stands where 2:number should"),
-            ("0:1", "0:0.5", 2, "'0:0.5' stands where 0:number should"),
+            (
+                "0:1",
+                "0:1.5",
+                2,
+                "'0:1.5' stands where 0:serial, a whole number, should",
+            ),
             ("0:1", "0:4", 2, "the serial number 4 is none of 1 to 3"),
             ("0:1", "0:0", 2, "the serial number 0 is none of 1 to 3"),
             (" 3:7\r", "", 2, "2 kernel values, but line 1 has 3"),

@@ -3,11 +3,16 @@ use std::io::Write;
 use std::sync::mpsc::{channel, RecvTimeoutError};
 use std::time::Duration;
 
-/// Does the work. Where it takes more than a second and somebody looks on, a line on standard error says what is done and how many
-/// seconds it has taken; it goes away in the end.
-pub fn shown<T: Send>(terminal: bool, what: &str, work: impl FnOnce() -> T + Send) -> T {
+/// Does the work. Where it takes more than a second and somebody looks on, a line says what is done and how many seconds it has
+/// taken; it goes away in the end.
+pub fn shown<T: Send>(
+    line: &mut (dyn Write + Send),
+    terminal: bool,
+    what: &str,
+    work: impl FnOnce() -> T + Send,
+) -> T {
     match terminal {
-        true => watched(&mut std::io::stderr(), Duration::from_secs(1), what, work),
+        true => watched(line, Duration::from_secs(1), what, work),
         false => work(),
     }
 }

@@ -3,24 +3,38 @@ use crate::arguments::{Fit, Settings};
 use crate::model::double;
 use crate::problem::Samples;
 use altuliscia::{Answer, ExitReason};
+use std::cmp::Ordering;
 
-/// A double as `%f` of C writes it.
+/// A double as `%f` of C writes it, but for what would have more than sixteen digits before the point.
 fn six(x: f64) -> String {
-    match x.is_finite() {
+    match x.abs() < 1e16 {
         true => format!("{:.6}", x),
         false => double(x),
     }
 }
 
-/// Whether a sample's weight is at its ceiling. Where r makes it 0 or infinite, nothing is.
-fn at_ceiling(s: &Samples, fit: Fit, ceilings: (f64, f64), answer: &Answer, k: usize) -> bool {
+/// Whether a sample's weight is `at` its ceiling or `above` it. Where r makes the ceiling 0 or infinite, nothing is.
+fn ceiling(
+    s: &Samples,
+    fit: Fit,
+    ceilings: (f64, f64),
+    answer: &Answer,
+    k: usize,
+) -> Option<&'static str> {
     let ceiling = match (fit, answer.r, s.labels.get(k)) {
         // The nu fit divides its weights, and so their ceiling, by r, which may be negative.
         (Fit::Nu, Some(r), _) => (1.0 / r).abs(),
         (_, _, Some(0)) => ceilings.1,
         _ => ceilings.0,
     };
-    ceiling > 0.0 && ceiling.is_finite() && answer.home[k].abs() >= ceiling
+    if ceiling == 0.0 || ceiling.is_infinite() {
+        return None;
+    }
+    match answer.home[k].abs().partial_cmp(&ceiling) {
+        Some(Ordering::Equal) => Some("at"),
+        Some(Ordering::Greater) => Some("above"),
+        _ => None,
+    }
 }
 
 fn differs(answer: &Answer, k: usize) -> bool {
@@ -44,21 +58,38 @@ pub fn summary(s: &Samples, settings: &Settings, ceilings: (f64, f64), a: &Answe
     }
     lines.push(format!("obj = {}, rho = {}", six(a.obj), six(a.rho)));
     let bounded = (0..s.n)
-        .filter(|k| at_ceiling(s, settings.fit, ceilings, a, *k))
+        .filter(|k| ceiling(s, settings.fit, ceilings, a, *k).is_some())
         .count();
     lines.push(format!("nSV = {}, nBSV = {}", a.support, bounded));
     if settings.fit != Fit::OneClass {
         lines.push(format!("Total nSV = {}", a.support));
     }
-    lines.push(match a.reason {
+    lines.push(ended(settings, a));
+    lines.extend(notes(s, settings, a));
+    lines.join("\n") + "\n"
+}
+
+/// The lines for standard error, where no summary is told: how the run ended, or with -q only what isn't well.
+pub fn beside(s: &Samples, settings: &Settings, a: &Answer) -> String {
+    let mut lines = Vec::new();
+    if !settings.quiet || a.reason == ExitReason::Iterations {
+        lines.push(ended(settings, a));
+    }
+    if !settings.quiet {
+        lines.push(format!("rho = {}", double(a.rho)));
+    }
+    lines.extend(notes(s, settings, a));
+    lines.into_iter().map(|line| line + "\n").collect()
+}
+
+fn ended(settings: &Settings, a: &Answer) -> String {
+    match a.reason {
         ExitReason::Threshold => "exit reason: threshold".to_string(),
         ExitReason::Iterations => format!(
             "exit reason: iterations (all {} of the budget)",
             settings.budget
         ),
-    });
-    lines.extend(notes(s, settings, a));
-    lines.join("\n") + "\n"
+    }
 }
 
 /// What makes a model worse than it looks.
@@ -83,6 +114,12 @@ fn notes(s: &Samples, settings: &Settings, a: &Answer) -> Vec<String> {
             parted, s.n
         ));
     }
+    if settings.shrinking {
+        notes.push(
+            "note: with -h 1 'threshold' speaks only of the samples still active, and obj and rho needn't be those of these weights; train with -h 0"
+                .to_string(),
+        );
+    }
     notes
 }
 
@@ -96,11 +133,6 @@ pub fn weights(s: &Samples, settings: &Settings, ceilings: (f64, f64), a: &Answe
             (Some(_), [_, second]) => second.to_string(),
             _ => String::new(),
         };
-        let ceiling = if at_ceiling(s, settings.fit, ceilings, a, k) {
-            "at"
-        } else {
-            ""
-        };
         let other = if differs(a, k) {
             double(a.crate_reading[k])
         } else {
@@ -112,7 +144,7 @@ pub fn weights(s: &Samples, settings: &Settings, ceilings: (f64, f64), a: &Answe
             s.serials[k],
             label,
             double(a.home[k]),
-            ceiling,
+            ceiling(s, settings.fit, ceilings, a, k).unwrap_or_default(),
             other
         );
         lines.push(line.trim_end().to_string());

@@ -20,16 +20,25 @@ fn file(folder: &PathBuf, name: &str, data: &[u8]) -> String {
     path.to_str().unwrap().to_string()
 }
 
-/// Runs a line of words, in which FILE and MODEL stand for paths.
+/// What is told on standard output by a line of words, in which FILE and MODEL stand for paths.
 fn told(line: &str, file: &str, model: &str) -> Result<String, Trouble> {
+    both(line, file, model).map(|(out, _)| out)
+}
+
+/// What is told on standard output and on standard error.
+fn both(line: &str, file: &str, model: &str) -> Result<(String, String), Trouble> {
     let path = |word: &str| match word {
         "FILE" => file.to_string(),
         "MODEL" => model.to_string(),
         other => other.to_string(),
     };
     let words: Vec<String> = line.split_whitespace().map(path).collect();
-    let mut out = Vec::new();
-    run(&words, &mut out, false).map(|()| String::from_utf8(out).unwrap())
+    let (mut out, mut err) = (Vec::new(), Vec::new());
+    run(&words, &mut out, &mut err, false)?;
+    Ok((
+        String::from_utf8(out).unwrap(),
+        String::from_utf8(err).unwrap(),
+    ))
 }
 
 const SMALL: &str = "7 0:1 1:1 2:0\n3 0:2 1:0 2:1\n";
@@ -59,8 +68,6 @@ fn a_model_is_written_and_told() {
         fs::read_to_string(&model).unwrap(),
         "svm_type c_svc\nkernel_type precomputed\nnr_class 2\ntotal_sv 2\nrho 0.0\nlabel 7 3\nnr_sv 1 1\nSV\n1.0 0:1\n-1.0 0:2\n"
     );
-    let text = told("train FILE MODEL --budget 1 -q", &path, &model).unwrap();
-    assert_eq!(text, "");
     let text = told("train FILE MODEL --budget 1", &path, &model).unwrap();
     assert!(text.ends_with("exit reason: iterations (all 1 of the budget)\n"));
     let text = told("train -s 1 -n 1 FILE MODEL", &path, &model).unwrap();
@@ -120,6 +127,102 @@ fn costs_are_multiplied_by_label() {
         (wrong.status(), wrong.to_string().as_str()),
         (2, "-w1: no sample has that label (see altuliscia --help)")
     );
+}
+
+/// A problem that has a weight above its ceiling where the second class has twice the cost of the first.
+const OVER: &str = "\
+1 0:1 1:8 2:-2 3:4 4:-2 5:6 6:12 7:12 8:4 9:6 10:-2
+-1 0:2 1:-2 2:13 3:14 4:8 5:-14 6:-8 7:2 8:14 9:6 10:-17
+-1 0:3 1:4 2:14 3:20 4:8 5:-12 6:0 7:12 8:20 9:12 10:-22
+1 0:4 1:-2 2:8 3:8 4:5 5:-9 6:-6 7:0 8:8 9:3 10:-10
+-1 0:5 1:6 2:-14 3:-12 4:-9 5:17 6:14 7:4 8:-12 9:-3 10:16
+-1 0:6 1:12 2:-8 3:0 4:-6 5:14 6:20 7:16 8:0 9:6 10:4
+1 0:7 1:12 2:2 3:12 4:0 5:4 6:16 7:20 8:12 9:12 10:-10
+1 0:8 1:4 2:14 3:20 4:8 5:-12 6:0 7:12 8:20 9:12 10:-22
+-1 0:9 1:6 2:6 3:12 4:3 5:-3 6:6 7:12 8:12 9:9 10:-12
+-1 0:10 1:-2 2:-17 3:-22 4:-10 5:16 6:4 7:-10 8:-22 9:-12 10:25
+";
+
+#[test]
+fn a_weight_above_its_ceiling_is_told() {
+    let f = folder("above");
+    let path = file(&f, "over.txt", OVER.as_bytes());
+    let text = told("weights -w-1 2 FILE", &path, "").unwrap();
+    let found: Vec<&str> = text.lines().skip(1).collect();
+    let above = "     3      4      1  1.0000000000000002        above";
+    assert_eq!(found[3], above);
+    let at = (0..10).filter(|k| found[*k].ends_with("  at"));
+    assert_eq!(at.collect::<Vec<_>>(), [0, 6, 7, 8]);
+    let text = told("train -w-1 2 FILE MODEL", &path, "/dev/null").unwrap();
+    assert!(text.contains("nSV = 10, nBSV = 5\n"), "{}", text);
+    let help = told("weights --help", "", "").unwrap();
+    assert!(help.contains("`above` where it is above it"));
+    let kept = "it is kept only where both\n              classes have the same cost\n";
+    assert!(help.contains(kept));
+}
+
+const ON: &str = "note: with -h 1 'threshold' speaks only of the samples still active, and obj and rho needn't be those of these weights; train with -h 0\n";
+
+#[test]
+fn with_shrinking_on_a_note_says_what_it_leaves_out() {
+    let f = folder("shrinking");
+    let path = file(&f, "small.txt", SMALL.as_bytes());
+    for fit in ["-s 0", "-s 1 -n 0.5", "-s 2"] {
+        let with = |shrinking: &str| {
+            let line = format!("train {} {} FILE MODEL", fit, shrinking);
+            told(&line, &path, "/dev/null").unwrap()
+        };
+        assert_eq!(with("-h 1"), with("-h 0") + ON);
+    }
+    let help = told("train --help", "", "").unwrap();
+    let limit = "no pair is left to mend, with -h 1: among the\nsamples still active;";
+    assert!(help.contains(limit));
+}
+
+#[test]
+fn quiet_says_only_what_is_not_well() {
+    let f = folder("quiet");
+    let path = file(&f, "small.txt", SMALL.as_bytes());
+    let list = told("weights FILE", &path, "").unwrap();
+    for (options, expected) in [
+        ("", ""),
+        (
+            "--budget 1",
+            "exit reason: iterations (all 1 of the budget)\n",
+        ),
+        ("-h 1", ON),
+    ] {
+        let line = format!("train -q {} FILE MODEL", options);
+        let (out, err) = both(&line, &path, "/dev/null").unwrap();
+        assert_eq!((out.as_str(), err.as_str()), ("", expected));
+        let (out, err) = both(&format!("weights -q {} FILE", options), &path, "").unwrap();
+        assert_eq!((out.as_str(), err.as_str()), (list.as_str(), expected));
+    }
+    let help = told("train --help", "", "").unwrap();
+    assert!(help.contains("all is well; what isn't is told on standard error\n"));
+    assert!(help.contains("With -q only the notes, and the exit reason where it is iterations,"));
+}
+
+#[test]
+fn how_a_lists_run_ended_is_told_beside_it() {
+    let f = folder("beside");
+    let path = file(&f, "over.txt", OVER.as_bytes());
+    let (_, err) = both("weights -w-1 2 FILE", &path, "").unwrap();
+    assert_eq!(err, "exit reason: threshold\nrho = 0.9999433318247627\n");
+    let (list, err) = both("weights -h 1 -w-1 2 FILE", &path, "").unwrap();
+    let start = "exit reason: threshold\nrho = nan\nnote: rho is nan, ";
+    assert!(err.starts_with(start) && err.ends_with(ON), "{}", err);
+    let help = told("weights --help", "", "").unwrap();
+    assert!(
+        help.contains("The exit reason, rho and the notes of `train` are told on standard error")
+    );
+    // Where both go to one place it stands below the list.
+    let whole = fs::File::create(f.join("whole")).unwrap();
+    let mut command = program();
+    command.args(["weights", "-h", "1", "-w-1", "2", &path]);
+    command.stdout(whole.try_clone().unwrap()).stderr(whole);
+    assert!(command.status().unwrap().success());
+    assert_eq!(fs::read_to_string(f.join("whole")).unwrap(), list + &err);
 }
 
 #[test]
@@ -219,9 +322,10 @@ fn each_refusal_has_its_status_and_writes_nothing() {
 fn a_check_names_every_fault() {
     let f = folder("check");
     let path = file(&f, "a", b"1 0:1 1:nan 2:0\n2 0:2 1:0 2:-1e302\n");
-    let mut out = Vec::new();
+    let (mut out, mut err) = (Vec::new(), Vec::new());
     let words = ["check", "-c", "-1", "-e", "nan", &path].map(str::to_string);
-    let trouble = run(&words, &mut out, false).unwrap_err();
+    let trouble = run(&words, &mut out, &mut err, false).unwrap_err();
+    assert_eq!(err, b"");
     assert_eq!(
         (trouble.status(), trouble.to_string().as_str()),
         (13, "this problem would be refused")
@@ -229,16 +333,71 @@ fn a_check_names_every_fault() {
     let kernel = "A kernel entry is NaN, infinite or above 2^1000 in magnitude: the index is column*n + row; scale the kernel down or mend that entry.";
     let ceiling = "A ceiling is NaN, not above 0 or above 2^1000: the index is its sample, in the C entry 0 for cpos and 1 for cneg; give a ceiling above 0 and not above 2^1000.";
     let expected = [
-        format!("{}:1: refusal 3 at index 0: {}", path, kernel),
-        format!("{}:2: refusal 3 at index 3: {}", path, kernel),
-        format!("-c, -w: the cost of label 1 is -1: refusal 5 at index 0: {}", ceiling),
-        format!("-c, -w: the cost of label 2 is -1: refusal 5 at index 1: {}", ceiling),
-        "-e NaN: refusal 8: The threshold eps is NaN, infinite or has its sign bit set: give 0 or a finite number above it.".to_string(),
+        format!("{}:1: '1:nan': refusal 3 at index 0: {}", path, kernel),
+        format!("{}:2: '2:-1e302': refusal 3 at index 3: {}", path, kernel),
+        format!("-c, -w: the cost of label 1 is -1.0: refusal 5 at index 0: {}", ceiling),
+        format!("-c, -w: the cost of label 2 is -1.0: refusal 5 at index 1: {}", ceiling),
+        "-e nan: refusal 8: The threshold eps is NaN, infinite or has its sign bit set: give 0 or a finite number above it.".to_string(),
         format!("{}: 2 samples, 5 faults", path),
     ];
     assert_eq!(
         String::from_utf8(out).unwrap().lines().collect::<Vec<_>>(),
         expected
+    );
+}
+
+#[test]
+fn a_check_tells_its_faults_on_standard_output() {
+    let help = told("check --help", "", "").unwrap();
+    assert!(help.contains("a line each on\nstandard output: where it stands"));
+}
+
+/// The word is the file's own, wherever its sample stands.
+#[test]
+fn a_bad_kernel_value_is_told_as_it_is_written() {
+    let f = folder("words");
+    let data = b"1 0:3 1:0 2:0 3:1\n2 0:1 1:1 2:nan 3:+1E400\n";
+    let path = file(&f, "a", data);
+    let trouble = told("train FILE MODEL", &path, "/dev/null").unwrap_err();
+    let place = format!("{}:2: '3:+1E400': refusal 3 at index 2: ", path);
+    assert!(trouble.to_string().starts_with(&place), "{}", trouble);
+}
+
+#[test]
+fn the_number_of_samples_is_told_where_it_is_too_large() {
+    let f = folder("samples");
+    for (n, data) in [(513, own(513, &[], &[])), (0, Vec::new())] {
+        let path = file(&f, "a", &data);
+        let trouble = told("weights FILE", &path, "").unwrap_err();
+        let place = format!("{}: {} samples: refusal 1: ", path, n);
+        assert!(trouble.to_string().starts_with(&place), "{}", trouble);
+    }
+}
+
+#[test]
+fn numbers_of_many_digits_are_told_in_few() {
+    let f = folder("digits");
+    let path = file(&f, "small.txt", SMALL.as_bytes());
+    for (options, place) in [
+        ("-c 1e302", "-c, -w: the cost of label 7 is 1e302: refusal"),
+        ("-e -1e302", "-e -1e302: refusal"),
+        ("-e -1e-302", "-e -1e-302: refusal"),
+        ("-s 1 -n 1e302", "-n 1e302: refusal"),
+        (
+            "--budget 99999999999999999999",
+            "--budget 18446744073709551615 or more: refusal 10: ",
+        ),
+    ] {
+        let line = format!("train {} FILE MODEL", options);
+        let trouble = told(&line, &path, "/dev/null").unwrap_err();
+        assert!(trouble.to_string().starts_with(place), "{}", trouble);
+    }
+    let large = file(&f, "large", b"1 0:1 1:-1e300 2:0\n2 0:2 1:0 2:-1e300\n");
+    let text = told("train FILE MODEL", &large, "/dev/null").unwrap();
+    assert!(
+        text.contains("\nobj = -1e300, rho = 0.000000\n"),
+        "{}",
+        text
     );
 }
 
@@ -341,16 +500,24 @@ fn a_wrong_length_is_told_with_what_should_be() {
     assert_eq!(trouble.status(), 11);
 }
 
-/// An output that takes nothing.
-struct Full;
+/// An output that takes nothing and says so at once, or only when it is flushed.
+struct Full {
+    at_once: bool,
+}
 
 impl std::io::Write for Full {
-    fn write(&mut self, _: &[u8]) -> std::io::Result<usize> {
-        Err(std::io::ErrorKind::BrokenPipe.into())
+    fn write(&mut self, data: &[u8]) -> std::io::Result<usize> {
+        match self.at_once {
+            true => Err(std::io::ErrorKind::BrokenPipe.into()),
+            false => Ok(data.len()),
+        }
     }
 
     fn flush(&mut self) -> std::io::Result<()> {
-        Ok(())
+        match self.at_once {
+            true => Ok(()),
+            false => Err(std::io::ErrorKind::BrokenPipe.into()),
+        }
     }
 }
 
@@ -358,8 +525,9 @@ impl std::io::Write for Full {
 fn an_output_that_breaks_is_told() {
     let f = folder("broken");
     let path = file(&f, "a", SMALL.as_bytes());
-    for words in [["weights", &path], ["check", &path]] {
-        let trouble = run(&words.map(str::to_string), &mut Full, false).unwrap_err();
+    for (command, at_once) in [("weights", true), ("check", true), ("check", false)] {
+        let words = [command, &path].map(str::to_string);
+        let trouble = run(&words, &mut Full { at_once }, &mut Vec::new(), false).unwrap_err();
         assert_eq!(trouble.status(), 4);
         let text = "not all was written to standard output: ";
         assert!(trouble.to_string().starts_with(text), "{}", trouble);

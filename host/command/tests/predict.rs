@@ -40,7 +40,7 @@ fn predicted(folder: &Path, train: &str, held: &str, options: &str) -> Vec<i32> 
     fs::write(path("held"), held).unwrap();
     let mut words = vec!["train".to_string(), path("train"), path("model")];
     words.extend(options.split_whitespace().map(str::to_string));
-    command::run(&words, &mut Vec::new(), false).unwrap();
+    command::run(&words, &mut Vec::new(), &mut Vec::new(), false).unwrap();
     let files = ["held", "model", "labels"].map(path);
     let output = Command::new("svm-predict").args(&files).output().unwrap();
     assert!(output.status.success(), "{:?}", output);

@@ -1,0 +1,98 @@
+-- With shrinking off the two lists that an entry answers are one and the same. Assumes nothing.
+use Prim.Native.Nat.{ℕ, _<_}
+use mathlib.Core.Bool.{Bool, true, false}
+use mathlib.Core.List.{List}
+use mathlib.Core.Path.{_≡_, refl, sym, ap, _∙_}
+use native.Mathlib.Omega.{arith}
+use lib.Ieee.{Float, nan}
+use lib.ListN.{length, getD}
+use Rattle.answer.specs.Answer.{coefficientOf}
+use Rattle.answer.specs.Lent.{Lent, Whole}
+use Rattle.answer.specs.Solved as Solved
+use Rattle.answer.specs.Solved.{stuck, levelAt, settledBy, solved}
+use Rattle.answer.specs.declared.Answer.{Answer}
+use Rattle.answer.specs.declared.Finish.{Finish}
+use Rattle.answer.specs.declared.Outcome.the-variants.{Accepted}
+use Rattle.classification.specs.Entries.{fitted, generalOf, fitCOf, fitNuOf, fitOneClassOf}
+use Rattle.fits.proofs.Loaded.{length-numbers, sample-loaded}
+use Rattle.readings.specs.Order.{crateReading, weightIn, Perm}
+use Rattle.readings.proofs.Order.{length-gathered, crate-at, home-at}
+use Rattle.solver.specs.Run.{Full}
+use Rattle.solver.specs.declared.Given.{Given}
+use Rattle.promises.specs.Fit.{Fit, startFrom, runOf, rOf}
+use Rattle.promises.proofs.Accepts.{refused-apart}
+use Rattle.promises.proofs.Entries.{general-served, c-served, nu-served, one-class-served}
+use Rattle.promises.proofs.Home.{finished-at, served-at}
+use Rattle.promises.proofs.Still.{trained-still}
+use Rattle.promises.proofs.Travel.{Served}
+
+settled-crate : (b : Bool) (g : Given) (how : Finish) (l : List ℕ) (budget : ℕ) (w : Full) (c h : List Float) (x : Answer)
+    → settledBy b g how l budget w c h .out ≡ Accepted x → settledBy b g how l budget w c h .crate ≡ Solved.crateOf g how l w (levelAt g w) c
+unfolding settledBy
+settled-crate true g how l budget w c h x e = absurd (refused-apart 11 0 x e)
+settled-crate false g how l budget w c h x e = refl
+
+module _ {k : Fit} {m : List ℕ} {budget : ℕ} {d : Lent} {o : Whole} (v : Served k m budget d o) (x : Answer) (e : o .out ≡ Accepted x) (off : k .given .shrinking ≡ false) where
+  abbrev g : Given
+  g = k .given
+
+  abbrev w : Full
+  w = runOf k m d budget
+
+  abbrev weights : ℕ → Float
+  weights = weightIn (g .n) (w .state .floats)
+
+  -- each sample stands at its own place
+  own-place : (i : ℕ) → i < g .n → getD (w .state .numbers) i 0 ≡ i
+  own-place i h =
+      ap (λ (u : List ℕ). getD u i 0) (trained-still g m (k .ceilings) off (startFrom k m d .numbers) budget (startFrom k m d) refl .order)
+      ∙ sample-loaded (g .n) (d .numbers) (v .room .numbers) (g .n) i (omega arith) h
+
+  own-order : Perm (g .n) (w .state .numbers)
+  own-order = record {
+    within = record {
+      long =
+          rw (ap length (trained-still g m (k .ceilings) off (startFrom k m d .numbers) budget (startFrom k m d) refl .order))
+          (rw (length-numbers (g .n) (d .numbers) (g .n)) (let r = v .room .numbers in omega arith));
+      below = λ i h. rw (own-place i h) h;
+    };
+    place = λ s. s;
+    inside = λ s h. h;
+    there = own-place;
+    only = own-place;
+  }
+
+  crate-list : o .left .crate ≡ Solved.crateOf g (k .how) (k .labels) w (levelAt g w) (d .crate)
+  unfolding fitted solved
+  crate-list =
+      ap (λ (q : Whole). q .left .crate) (v .same)
+      ∙ settled-crate (stuck (w .run .status)) g (k .how) (k .labels) budget w (d .crate) (d .home) x (sym (ap (λ (q : Whole). q .out) (v .same)) ∙ e)
+
+  pub served-alike : (s : ℕ) → s < g .n → getD (o .left .crate) s nan ≡ getD (o .left .home) s nan
+  unfolding Solved.crateOf own-order
+  served-alike s h =
+      ap (λ (t : List Float). getD t s nan) crate-list
+      ∙ finished-at (k .how) (k .labels) (rOf k m d budget) (crateReading (g .n) (w .state .numbers) weights (d .crate)) (g .n) s
+      (rw (length-gathered (w .state .numbers) weights (d .crate) (g .n)) (v .room .crate)) h
+      ∙ ap (coefficientOf (k .how) (getD (k .labels) s 0) (rOf k m d budget))
+      (crate-at nan (w .state .numbers) weights (d .crate) (g .n) s (v .room .crate) h
+      ∙ ap weights (own-place s h)
+      ∙ sym (home-at nan (w .state .numbers) weights (d .home) (g .n) s (v .room .home) own-order h))
+      ∙ sym (served-at v x e s h)
+
+module _ (n : ℕ) (m l : List ℕ) (c a p : List Float) (nurule : Bool) (eps : Float) (budget : ℕ) (d : Lent) (x : Answer) (e : generalOf n m l c a p nurule eps false budget d .out ≡ Accepted x) where
+  pub general-alike : (s : ℕ) → s < n
+      → getD (generalOf n m l c a p nurule eps false budget d .left .crate) s nan ≡ getD (generalOf n m l c a p nurule eps false budget d .left .home) s nan
+  general-alike = served-alike (general-served n m l c a p nurule eps false budget d x e) x e refl
+
+module _ (n : ℕ) (m l : List ℕ) (cpos cneg eps : Float) (budget : ℕ) (d : Lent) (x : Answer) (e : fitCOf n m l cpos cneg eps false budget d .out ≡ Accepted x) where
+  pub c-alike : (s : ℕ) → s < n → getD (fitCOf n m l cpos cneg eps false budget d .left .crate) s nan ≡ getD (fitCOf n m l cpos cneg eps false budget d .left .home) s nan
+  c-alike = served-alike (c-served n m l cpos cneg eps false budget d x e) x e refl
+
+module _ (n : ℕ) (m l : List ℕ) (nu eps : Float) (budget : ℕ) (d : Lent) (x : Answer) (e : fitNuOf n m l nu eps false budget d .out ≡ Accepted x) where
+  pub nu-alike : (s : ℕ) → s < n → getD (fitNuOf n m l nu eps false budget d .left .crate) s nan ≡ getD (fitNuOf n m l nu eps false budget d .left .home) s nan
+  nu-alike = served-alike (nu-served n m l nu eps false budget d x e) x e refl
+
+module _ (n : ℕ) (m : List ℕ) (nu eps : Float) (budget : ℕ) (d : Lent) (x : Answer) (e : fitOneClassOf n m nu eps false budget d .out ≡ Accepted x) where
+  pub one-class-alike : (s : ℕ) → s < n → getD (fitOneClassOf n m nu eps false budget d .left .crate) s nan ≡ getD (fitOneClassOf n m nu eps false budget d .left .home) s nan
+  one-class-alike = served-alike (one-class-served n m nu eps false budget d x e) x e refl
