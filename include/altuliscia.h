@@ -55,8 +55,11 @@ extern "C" {
 
 /* Why an accepted run ended. */
 enum altuliscia_reason {
-    ALTULISCIA_THRESHOLD = 0, /* no pair is left that breaks the conditions by eps or more */
-    ALTULISCIA_ITERATIONS = 1 /* the budget ran out: exactly where the number of steps equals it */
+    /* No pair is left that breaks the conditions by eps or more. With shrinking on: among the samples still active, by the gradients
+     * as they are kept; then obj and rho needn't be those of the answered weights. */
+    ALTULISCIA_THRESHOLD = 0,
+    /* The budget ran out: exactly where the number of steps equals it. */
+    ALTULISCIA_ITERATIONS = 1
 };
 
 /* Why a call was refused. The lowest number that applies is given. A number keeps its meaning for good: one that is retired is
