@@ -5,21 +5,22 @@ use mathlib.Core.Bool.{Bool, true, false, cond}
 use mathlib.Core.List.{List}
 use mathlib.Core.Path.{_≡_, refl, sym, ap, _∙_}
 use native.Mathlib.Omega.{arith}
-use borrow.Author.Tests.{eqb-true, eqb-false}
+use borrow.Author.Tests.{eqb-true, eqb-false, eq-eqb, lt-ltb, le-leb}
 use lib.Dec.{eqb}
 use lib.Ieee.{Float, binary64, toBits}
 use lib.ListN.{length, length-replicate}
+use Rattle.alpha.specs.Weight as Weight
 use Rattle.altuliscia.specs.Functions.{isOn, asFloat, sizesOf, generalInputs, generalHost, cHost, nuHost, oneClassHost}
-use Rattle.answer.specs.Lent.{Whole}
+use Rattle.answer.specs.Lent.{Lent, Whole}
 use Rattle.answer.specs.declared.Answer.{Answer}
 use Rattle.answer.specs.declared.Outcome.{Outcome}
 use Rattle.answer.specs.declared.Outcome.the-variants.{Accepted, Refused}
-use Rattle.classification.specs.Entries.{fitted, generalSized, fitCSized, fitNuSized, fitOneClassSized}
+use Rattle.classification.specs.Entries.{fitted, entered, generalSized, fitCSized, fitCOf, fitNuSized, fitNuOf, fitOneClassSized, fitOneClassOf}
 use Rattle.classification.proofs.Laws.{Usable, usable-general, usable-c, usable-nu, usable-one-class}
 use Rattle.hosted.specs.Hosted.{floatsOf, storedTo, room, Handed, handed, deliveredBy, delivered, turnedAway, hostedBy, freshPlaces, freshFloats, freshNumbers, freshBytes}
-use Rattle.hosted.proofs.Serves.{Serves, serves}
+use Rattle.hosted.proofs.Serves.{Serves, inputs-right, serves}
 use Rattle.judge.specs.Judge.{generalJudged, cJudged, nuJudged, oneClassJudged}
-use Rattle.judge.specs.Sizes.{Room}
+use Rattle.judge.specs.Sizes.{sizes, Room}
 use Rattle.promises.specs.Fit.{Fit, generalFit, cFit, nuFit, oneClassFit}
 use Rattle.promises.proofs.Accepts.{decided-in}
 use Rattle.promises.proofs.Alike.{served-alike}
@@ -63,7 +64,7 @@ delivered-out n w cr h an some = go (w .out) refl
 
 room-fits : (n m : ℕ) → Room n m 512 512 3584 1024 512 → Room n m (length (room .crate)) (length (room .home)) (length (room .floats)) (length (room .numbers)) (length (room .bytes))
 unfolding freshPlaces freshFloats freshNumbers freshBytes
-room-fits n m r = rw (length-replicate, length-replicate, length-replicate) r
+room-fits n m r = rw (length-replicate 512 Weight.zero, length-replicate 3584 Weight.zero, length-replicate {A = ℕ} 1024 0, length-replicate {A = ℕ} 512 0) r
 
 module _ (k : Fit) (m cr h an : List ℕ) (budget : ℕ) (w : Whole) (square : k .given .side ≡ k .given .n) (r : Serves (k .given .n) (length m) (length cr) (length h) (length an)) (u : Usable (k .given .n) m budget)
     (o : Handed) (out : Out (k .given .n) w cr h o)
@@ -84,6 +85,12 @@ module _ (k : Fit) (m cr h an : List ℕ) (budget : ℕ) (w : Whole) (square : k
         ∙ sym (stored-at (w .left .home) h (k .given .n) s (r .home) g)
         ∙ sym (ap (λ (b : List ℕ). digits b (8 * s) 8) (out .home));
   }
+
+-- lists of the right sizes are let in
+let-in : (n : ℕ) (inputs : Bool) (m rc rh f u y : ℕ) (w : Whole) (d : Lent) → inputs ≡ true → Room n m rc rh f u y → entered (sizes n inputs m rc rh f u y) w d ≡ w
+unfolding entered sizes
+let-in n inputs m rc rh f u y w d i r =
+    rw (lt-ltb 0 n (r .some), le-leb n 512 (r .most), i, eq-eqb m (8 * (n * n)) (r .matrix), le-leb n rc (r .crate), le-leb n rh (r .home), le-leb (7 * n) f (r .floats), le-leb (2 * n) u (r .numbers), le-leb n y (r .bytes))
 
 -- ---- the four functions
 
@@ -122,6 +129,16 @@ module _ (n : ℕ) (m l : List ℕ) (cpos cneg eps shrinking budget : ℕ) (cr h
       let j = decided-in (fitOver cK m budget) room (o .answer) (cJudged n m l (asFloat cpos) (asFloat cneg) (asFloat eps) budget) (o .accepted) in
       rw (t .1) (gives cK m cr h an budget cW refl v (usable-c n m budget (v .room .most) (v .room .matrix) l (asFloat cpos) (asFloat cneg) (asFloat eps) (j .0)) (delivered n cW cr h an) o (j .1))
 
+  -- the entry accepts, so all that is promised of it holds
+  pub c-called : (x : Answer) × (fitCOf n m l (asFloat cpos) (asFloat cneg) (asFloat eps) (isOn shrinking) budget room .out ≡ Accepted x)
+  unfolding cHost fitCOf
+  c-called =
+      let t = turned-not (sizesOf n (eqb (length l) n) m cr h an) (delivered n cW cr h an) cr h an z in
+      let v = serves n (eqb (length l) n) (length m) (length cr) (length h) (length an) (t .0) in
+      let o = delivered-out n cW cr h an (λ k i e. c-sized-number n m l (asFloat cpos) (asFloat cneg) (asFloat eps) (isOn shrinking) budget room k i e .0) (sym (ap (λ (q : Handed). q .code) (t .1)) ∙ z) in
+      let i = inputs-right n (eqb (length l) n) (length m) (length cr) (length h) (length an) (t .0) in
+      (o .answer, ap (λ (q : Whole). q .out) (let-in n (eqb (length l) n) _ _ _ _ _ _ cW room i (room-fits n (length m) (v .room))) ∙ o .accepted)
+
 module _ (n : ℕ) (m l : List ℕ) (nu eps shrinking budget : ℕ) (cr h an : List ℕ) (z : nuHost n m l nu eps shrinking budget cr h an .code ≡ 0) where
   abbrev nuK : Fit
   nuK = nuFit n l (asFloat nu) (asFloat eps) (isOn shrinking)
@@ -138,6 +155,16 @@ module _ (n : ℕ) (m l : List ℕ) (nu eps shrinking budget : ℕ) (cr h an : L
       let j = decided-in (fitOver nuK m budget) room (o .answer) (nuJudged n m l (asFloat nu) (asFloat eps) budget) (o .accepted) in
       rw (t .1) (gives nuK m cr h an budget nuW refl v (usable-nu n m budget (v .room .most) (v .room .matrix) l (asFloat nu) (asFloat eps) (j .0)) (delivered n nuW cr h an) o (j .1))
 
+  -- the entry accepts, so all that is promised of it holds
+  pub nu-called : (x : Answer) × (fitNuOf n m l (asFloat nu) (asFloat eps) (isOn shrinking) budget room .out ≡ Accepted x)
+  unfolding nuHost fitNuOf
+  nu-called =
+      let t = turned-not (sizesOf n (eqb (length l) n) m cr h an) (delivered n nuW cr h an) cr h an z in
+      let v = serves n (eqb (length l) n) (length m) (length cr) (length h) (length an) (t .0) in
+      let o = delivered-out n nuW cr h an (λ k i e. nu-sized-number n m l (asFloat nu) (asFloat eps) (isOn shrinking) budget room k i e .0) (sym (ap (λ (q : Handed). q .code) (t .1)) ∙ z) in
+      let i = inputs-right n (eqb (length l) n) (length m) (length cr) (length h) (length an) (t .0) in
+      (o .answer, ap (λ (q : Whole). q .out) (let-in n (eqb (length l) n) _ _ _ _ _ _ nuW room i (room-fits n (length m) (v .room))) ∙ o .accepted)
+
 module _ (n : ℕ) (m : List ℕ) (nu eps shrinking budget : ℕ) (cr h an : List ℕ) (z : oneClassHost n m nu eps shrinking budget cr h an .code ≡ 0) where
   abbrev oneClassK : Fit
   oneClassK = oneClassFit n (asFloat nu) (asFloat eps) (isOn shrinking)
@@ -153,3 +180,13 @@ module _ (n : ℕ) (m : List ℕ) (nu eps shrinking budget : ℕ) (cr h an : Lis
       let o = delivered-out n oneClassW cr h an (λ k i e. one-class-sized-number n m (asFloat nu) (asFloat eps) (isOn shrinking) budget room k i e .0) (sym (ap (λ (q : Handed). q .code) (t .1)) ∙ z) in
       let j = decided-in (fitOver oneClassK m budget) room (o .answer) (oneClassJudged n m (asFloat nu) (asFloat eps) budget) (o .accepted) in
       rw (t .1) (gives oneClassK m cr h an budget oneClassW refl v (usable-one-class n m budget (v .room .most) (v .room .matrix) (asFloat nu) (asFloat eps) (j .0)) (delivered n oneClassW cr h an) o (j .1))
+
+  -- the entry accepts, so all that is promised of it holds
+  pub one-class-called : (x : Answer) × (fitOneClassOf n m (asFloat nu) (asFloat eps) (isOn shrinking) budget room .out ≡ Accepted x)
+  unfolding oneClassHost fitOneClassOf
+  one-class-called =
+      let t = turned-not (sizesOf n true m cr h an) (delivered n oneClassW cr h an) cr h an z in
+      let v = serves n true (length m) (length cr) (length h) (length an) (t .0) in
+      let o = delivered-out n oneClassW cr h an (λ k i e. one-class-sized-number n m (asFloat nu) (asFloat eps) (isOn shrinking) budget room k i e .0) (sym (ap (λ (q : Handed). q .code) (t .1)) ∙ z) in
+      let i = inputs-right n true (length m) (length cr) (length h) (length an) (t .0) in
+      (o .answer, ap (λ (q : Whole). q .out) (let-in n true _ _ _ _ _ _ oneClassW room i (room-fits n (length m) (v .room))) ∙ o .accepted)
