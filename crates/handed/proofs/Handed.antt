@@ -1,33 +1,41 @@
--- Where a C function answers 0, its entry's fit was accepted, and the bytes at place s are those of what the promises say of sample s.
--- Assumes nothing.
-use Prim.Native.Nat.{ℕ, _*_, _%_, _^_, _≤_}
+-- Where a C function answers 0, its fit was accepted, the bytes at place s are those of what the promises say of sample s, and the promises hold
+-- of its run. Assumes nothing.
+use Prim.Native.Nat.{ℕ, _*_, _%_, _^_, _≤_, _<_}
 use mathlib.Core.Bool.{Bool, true, false, cond}
 use mathlib.Core.List.{List}
 use mathlib.Core.Path.{_≡_, refl, sym, ap, _∙_}
 use native.Mathlib.Omega.{arith}
 use borrow.Author.Tests.{eqb-true, eqb-false, eq-eqb, lt-ltb, le-leb}
-use lib.Dec.{eqb}
-use lib.Ieee.{Float, binary64, toBits}
-use lib.ListN.{length, length-replicate}
+use lib.Dec.{T, eqb}
+use lib.Ieee.{Float, nan, binary64, toBits, fits}
+use lib.Ieee.Bits.{ofBits-fits}
+use lib.ListN.{length, getD, length-replicate}
 use Rattle.alpha.specs.Weight as Weight
 use Rattle.altuliscia.specs.Functions.{isOn, asFloat, sizesOf, generalInputs, generalHost, cHost, nuHost, oneClassHost}
 use Rattle.answer.specs.Lent.{Lent, Whole}
 use Rattle.answer.specs.declared.Answer.{Answer}
 use Rattle.answer.specs.declared.Outcome.{Outcome}
 use Rattle.answer.specs.declared.Outcome.the-variants.{Accepted, Refused}
-use Rattle.classification.specs.Entries.{fitted, entered, generalSized, fitCSized, fitCOf, fitNuSized, fitNuOf, fitOneClassSized, fitOneClassOf}
+use Rattle.boxed.specs.Range.{In}
+use Rattle.classification.specs.Entries.{fitted, decided, entered, generalSized, fitCSized, fitCOf, fitNuSized, fitNuOf, fitOneClassSized, fitOneClassOf}
 use Rattle.classification.proofs.Laws.{Usable, usable-general, usable-c, usable-nu, usable-one-class}
-use Rattle.hosted.specs.Hosted.{floatsOf, storedTo, room, Handed, handed, deliveredBy, delivered, turnedAway, hostedBy, freshPlaces, freshFloats, freshNumbers, freshBytes}
+use Rattle.hosted.specs.Hosted.{decodedTo, floatsOf, storedTo, room, Handed, handed, deliveredBy, delivered, turnedAway, hostedBy, freshPlaces, freshFloats, freshNumbers, freshBytes}
 use Rattle.hosted.proofs.Serves.{Serves, inputs-right, serves}
 use Rattle.judge.specs.Judge.{generalJudged, cJudged, nuJudged, oneClassJudged}
 use Rattle.judge.specs.Sizes.{sizes, Room}
-use Rattle.promises.specs.Fit.{Fit, generalFit, cFit, nuFit, oneClassFit}
+use Rattle.judge.specs.declared.Judged.{Judged}
+use Rattle.judge.specs.declared.Judged.the-variants.{Fine}
+use Rattle.lists.proofs.Prefix.{prefix-at}
+use Rattle.promises.specs.Fit.{Fit, generalFit, cFit, nuFit, oneClassFit, weightAfter, stepsOf}
 use Rattle.promises.proofs.Accepts.{decided-in}
 use Rattle.promises.proofs.Alike.{served-alike}
+use Rattle.promises.proofs.Box.{Common, served-box, served-home-box}
+use Rattle.promises.proofs.Boxes.{general-common}
 use Rattle.promises.proofs.Home.{served-home}
 use Rattle.promises.proofs.Numbers.{general-sized-number, c-sized-number, nu-sized-number, one-class-sized-number}
 use Rattle.promises.proofs.Travel.{Served}
-use Rattle.wire.specs.Wire.{digits}
+use Rattle.travel.specs.Home.{lastLeft}
+use Rattle.wire.specs.Wire.{digits, floatAt}
 use Rattle.handed.specs.Gives.{Gives}
 use Rattle.handed.proofs.Stored.{stored-at}
 
@@ -44,11 +52,11 @@ turned-not number w cr h an = go (eqb number 0) refl
 
 -- ---- and not refused
 
-pub record Out (n : ℕ) (w : Whole) (cr h : List ℕ) (o : Handed) : Type 0 where
-  pub answer : Answer
-  pub accepted : w .out ≡ Accepted answer
-  pub crate : o .crate ≡ storedTo (w .left .crate) cr n
-  pub home : o .home ≡ storedTo (w .left .home) h n
+record Out (n : ℕ) (w : Whole) (cr h : List ℕ) (o : Handed) : Type 0 where
+  answer : Answer
+  accepted : w .out ≡ Accepted answer
+  crate : o .crate ≡ storedTo (w .left .crate) cr n
+  home : o .home ≡ storedTo (w .left .home) h n
 
 delivered-out : (n : ℕ) (w : Whole) (cr h an : List ℕ) → ((number index : ℕ) → w .out ≡ Refused number index → 1 ≤ number)
     → delivered n w cr h an .code ≡ 0 → Out n w cr h (delivered n w cr h an)
@@ -66,25 +74,52 @@ room-fits : (n m : ℕ) → Room n m 512 512 3584 1024 512 → Room n m (length 
 unfolding freshPlaces freshFloats freshNumbers freshBytes
 room-fits n m r = rw (length-replicate 512 Weight.zero, length-replicate 3584 Weight.zero, length-replicate {A = ℕ} 1024 0, length-replicate {A = ℕ} 512 0) r
 
-module _ (k : Fit) (m cr h an : List ℕ) (budget : ℕ) (w : Whole) (square : k .given .side ≡ k .given .n) (r : Serves (k .given .n) (length m) (length cr) (length h) (length an)) (u : Usable (k .given .n) m budget)
-    (o : Handed) (out : Out (k .given .n) w cr h o)
-    (same : w ≡ fitted (k .given) (k .how) m (k .labels) (k .ceilings) (k .weights) (k .terms) budget room) where
-  fit-served : Served k m budget room w
-  fit-served = record { square = square; room = room-fits (k .given .n) (length m) (r .room); usable = u; same = same }
+abbrev fitOver : Fit → List ℕ → ℕ → Whole
+fitOver k m budget = fitted (k .given) (k .how) m (k .labels) (k .ceilings) (k .weights) (k .terms) budget room
 
-  gives : Gives k m budget o
-  gives = record {
-    home = λ s g.
-        ap (λ (b : List ℕ). digits b (8 * s) 8) (out .home)
-        ∙ stored-at (w .left .home) h (k .given .n) s (r .home) g
-        ∙ ap (λ (x : Float). toBits binary64 x % 256 ^ 8) (served-home fit-served (out .answer) (out .accepted) s g);
-    alike = λ off s g.
-        ap (λ (b : List ℕ). digits b (8 * s) 8) (out .crate)
-        ∙ stored-at (w .left .crate) cr (k .given .n) s (r .crate) g
-        ∙ ap (λ (x : Float). toBits binary64 x % 256 ^ 8) (served-alike fit-served (out .answer) (out .accepted) off s g)
-        ∙ sym (stored-at (w .left .home) h (k .given .n) s (r .home) g)
-        ∙ sym (ap (λ (b : List ℕ). digits b (8 * s) 8) (out .home));
-  }
+record Ran (k : Fit) (m cr h : List ℕ) (budget : ℕ) (w : Whole) (o : Handed) : Type 0 where
+  served : Served k m budget room w
+  out : Out (k .given .n) w cr h o
+  crate-long : 8 * k .given .n ≤ length cr
+  home-long : 8 * k .given .n ≤ length h
+
+gives : {k : Fit} {m cr h : List ℕ} {budget : ℕ} {w : Whole} {o : Handed} → Ran k m cr h budget w o → Gives k m budget o
+gives {k = k} {m = m} {cr = cr} {h = h} {w = w} r = record {
+  home = λ s g.
+      ap (λ (b : List ℕ). digits b (8 * s) 8) (r .out .home)
+      ∙ stored-at (w .left .home) h (k .given .n) s (r .home-long) g
+      ∙ ap (λ (x : Float). toBits binary64 x % 256 ^ 8) (served-home (r .served) (r .out .answer) (r .out .accepted) s g);
+  alike = λ off s g.
+      ap (λ (b : List ℕ). digits b (8 * s) 8) (r .out .crate)
+      ∙ stored-at (w .left .crate) cr (k .given .n) s (r .crate-long) g
+      ∙ ap (λ (x : Float). toBits binary64 x % 256 ^ 8) (served-alike (r .served) (r .out .answer) (r .out .accepted) off s g)
+      ∙ sym (stored-at (w .left .home) h (k .given .n) s (r .home-long) g)
+      ∙ sym (ap (λ (b : List ℕ). digits b (8 * s) 8) (r .out .home));
+}
+
+-- a function that answers 0: its sizes are right, nothing was refused, and the fit ran
+ran : (k : Fit) (m cr h an : List ℕ) (budget number : ℕ) (j : Judged) → k .given .side ≡ k .given .n
+    → (number ≡ 0 → Serves (k .given .n) (length m) (length cr) (length h) (length an))
+    → (k .given .n ≤ 512 → length m ≡ 8 * (k .given .n * k .given .n) → j ≡ Fine → Usable (k .given .n) m budget)
+    → ((q index : ℕ) → decided j (fitOver k m budget) room .out ≡ Refused q index → 1 ≤ q)
+    → hostedBy number (delivered (k .given .n) (decided j (fitOver k m budget) room) cr h an) cr h an .code ≡ 0
+    → (number ≡ 0) × (j ≡ Fine)
+    × Ran k m cr h budget (decided j (fitOver k m budget) room) (hostedBy number (delivered (k .given .n) (decided j (fitOver k m budget) room) cr h an) cr h an)
+ran k m cr h an budget number j square sized usable some z =
+    let w = decided j (fitOver k m budget) room in
+    let t = turned-not number (delivered (k .given .n) w cr h an) cr h an z in
+    let v = sized (t .0) in
+    let o = delivered-out (k .given .n) w cr h an some (sym (ap (λ (q : Handed). q .code) (t .1)) ∙ z) in
+    let f = decided-in (fitOver k m budget) room (o .answer) j (o .accepted) in (
+      t .0,
+      f .0,
+      record {
+        served = record { square = square; room = room-fits (k .given .n) (length m) (v .room); usable = usable (v .room .most) (v .room .matrix) (f .0); same = f .1 };
+        out = rw (t .1) o;
+        crate-long = v .crate;
+        home-long = v .home;
+      },
+    )
 
 -- lists of the right sizes are let in
 let-in : (n : ℕ) (inputs : Bool) (m rc rh f u y : ℕ) (w : Whole) (d : Lent) → inputs ≡ true → Room n m rc rh f u y → entered (sizes n inputs m rc rh f u y) w d ≡ w
@@ -92,10 +127,11 @@ unfolding entered sizes
 let-in n inputs m rc rh f u y w d i r =
     rw (lt-ltb 0 n (r .some), le-leb n 512 (r .most), i, eq-eqb m (8 * (n * n)) (r .matrix), le-leb n rc (r .crate), le-leb n rh (r .home), le-leb (7 * n) f (r .floats), le-leb (2 * n) u (r .numbers), le-leb n y (r .bytes))
 
--- ---- the four functions
+floats-at : (b : List ℕ) (n i : ℕ) → n ≤ 512 → i < n → getD (floatsOf b n) i nan ≡ floatAt b (8 * i)
+unfolding decodedTo freshPlaces
+floats-at b n i few h = prefix-at nan (decodedTo b freshPlaces) (λ k. floatAt b (8 * k)) (λ k. refl) n i (rw (length-replicate 512 Weight.zero) few) h
 
-abbrev fitOver : Fit → List ℕ → ℕ → Whole
-fitOver k m budget = fitted (k .given) (k .how) m (k .labels) (k .ceilings) (k .weights) (k .terms) budget room
+-- ---- the four functions
 
 module _ (n : ℕ) (m l c a p : List ℕ) (nurule eps shrinking budget : ℕ) (cr h an : List ℕ) (z : generalHost n m l c a p nurule eps shrinking budget cr h an .code ≡ 0) where
   abbrev generalK : Fit
@@ -104,14 +140,31 @@ module _ (n : ℕ) (m l c a p : List ℕ) (nurule eps shrinking budget : ℕ) (c
   abbrev generalW : Whole
   generalW = generalSized n m l (floatsOf c n) (floatsOf a n) (floatsOf p n) (isOn nurule) (asFloat eps) (isOn shrinking) budget room
 
-  pub general-gives : Gives generalK m budget (generalHost n m l c a p nurule eps shrinking budget cr h an)
+  general-ran : (sizesOf n (generalInputs n l c a p) m cr h an ≡ 0) × (generalJudged n m l (floatsOf c n) (floatsOf a n) (floatsOf p n) (asFloat eps) budget ≡ Fine) × Ran generalK m cr h budget generalW (generalHost n m l c a p nurule eps shrinking budget cr h an)
   unfolding generalHost generalSized
-  general-gives =
-      let t = turned-not (sizesOf n (generalInputs n l c a p) m cr h an) (delivered n generalW cr h an) cr h an z in
-      let v = serves n (generalInputs n l c a p) (length m) (length cr) (length h) (length an) (t .0) in
-      let o = delivered-out n generalW cr h an (λ k i e. general-sized-number n m l (floatsOf c n) (floatsOf a n) (floatsOf p n) (isOn nurule) (asFloat eps) (isOn shrinking) budget room k i e .0) (sym (ap (λ (q : Handed). q .code) (t .1)) ∙ z) in
-      let j = decided-in (fitOver generalK m budget) room (o .answer) (generalJudged n m l (floatsOf c n) (floatsOf a n) (floatsOf p n) (asFloat eps) budget) (o .accepted) in
-      rw (t .1) (gives generalK m cr h an budget generalW refl v (usable-general n m budget (v .room .most) (v .room .matrix) l (floatsOf c n) (floatsOf a n) (floatsOf p n) (asFloat eps) (j .0)) (delivered n generalW cr h an) o (j .1))
+  general-ran =
+      ran generalK m cr h an budget (sizesOf n (generalInputs n l c a p) m cr h an) (generalJudged n m l (floatsOf c n) (floatsOf a n) (floatsOf p n) (asFloat eps) budget) refl
+      (serves n (generalInputs n l c a p) (length m) (length cr) (length h) (length an))
+      (λ most long. usable-general n m budget most long l (floatsOf c n) (floatsOf a n) (floatsOf p n) (asFloat eps))
+      (λ q i e. general-sized-number n m l (floatsOf c n) (floatsOf a n) (floatsOf p n) (isOn nurule) (asFloat eps) (isOn shrinking) budget room q i e .0)
+      z
+
+  pub general-gives : Gives generalK m budget (generalHost n m l c a p nurule eps shrinking budget cr h an)
+  general-gives = gives (general-ran .2)
+
+  -- the box, where every lent ceiling is b
+  module _ (b : Float) (fit : T (fits binary64 b)) (same : (i : ℕ) → i < n → getD (floatsOf c n) i nan ≡ b) where
+    one-b : Common generalK m b
+    one-b =
+        let r = general-ran in
+        general-common n m l (floatsOf c n) (floatsOf a n) (floatsOf p n) (isOn nurule) (asFloat eps) (isOn shrinking) budget (r .2 .served .room .some) (r .1) b fit same
+        (λ i g. rw (floats-at a n i (r .2 .served .room .most) g) (ofBits-fits binary64 _))
+
+    pub general-called-box : (t i : ℕ) → i < n → In b (weightAfter generalK m room t i)
+    general-called-box = served-box (general-ran .2 .served) one-b
+
+    pub general-called-home-box : (s : ℕ) → s < n → In b (lastLeft (stepsOf generalK m room budget) s (getD (floatsOf a n) s nan))
+    general-called-home-box = served-home-box (general-ran .2 .served) one-b
 
 module _ (n : ℕ) (m l : List ℕ) (cpos cneg eps shrinking budget : ℕ) (cr h an : List ℕ) (z : cHost n m l cpos cneg eps shrinking budget cr h an .code ≡ 0) where
   abbrev cK : Fit
@@ -120,24 +173,25 @@ module _ (n : ℕ) (m l : List ℕ) (cpos cneg eps shrinking budget : ℕ) (cr h
   abbrev cW : Whole
   cW = fitCSized n m l (asFloat cpos) (asFloat cneg) (asFloat eps) (isOn shrinking) budget room
 
-  pub c-gives : Gives cK m budget (cHost n m l cpos cneg eps shrinking budget cr h an)
+  c-ran : (sizesOf n (eqb (length l) n) m cr h an ≡ 0) × (cJudged n m l (asFloat cpos) (asFloat cneg) (asFloat eps) budget ≡ Fine) × Ran cK m cr h budget cW (cHost n m l cpos cneg eps shrinking budget cr h an)
   unfolding cHost fitCSized
-  c-gives =
-      let t = turned-not (sizesOf n (eqb (length l) n) m cr h an) (delivered n cW cr h an) cr h an z in
-      let v = serves n (eqb (length l) n) (length m) (length cr) (length h) (length an) (t .0) in
-      let o = delivered-out n cW cr h an (λ k i e. c-sized-number n m l (asFloat cpos) (asFloat cneg) (asFloat eps) (isOn shrinking) budget room k i e .0) (sym (ap (λ (q : Handed). q .code) (t .1)) ∙ z) in
-      let j = decided-in (fitOver cK m budget) room (o .answer) (cJudged n m l (asFloat cpos) (asFloat cneg) (asFloat eps) budget) (o .accepted) in
-      rw (t .1) (gives cK m cr h an budget cW refl v (usable-c n m budget (v .room .most) (v .room .matrix) l (asFloat cpos) (asFloat cneg) (asFloat eps) (j .0)) (delivered n cW cr h an) o (j .1))
+  c-ran =
+      ran cK m cr h an budget (sizesOf n (eqb (length l) n) m cr h an) (cJudged n m l (asFloat cpos) (asFloat cneg) (asFloat eps) budget) refl
+      (serves n (eqb (length l) n) (length m) (length cr) (length h) (length an))
+      (λ most long. usable-c n m budget most long l (asFloat cpos) (asFloat cneg) (asFloat eps))
+      (λ q i e. c-sized-number n m l (asFloat cpos) (asFloat cneg) (asFloat eps) (isOn shrinking) budget room q i e .0)
+      z
+
+  pub c-gives : Gives cK m budget (cHost n m l cpos cneg eps shrinking budget cr h an)
+  c-gives = gives (c-ran .2)
 
   -- the entry accepts, so all that is promised of it holds
   pub c-called : (x : Answer) × (fitCOf n m l (asFloat cpos) (asFloat cneg) (asFloat eps) (isOn shrinking) budget room .out ≡ Accepted x)
-  unfolding cHost fitCOf
+  unfolding fitCOf
   c-called =
-      let t = turned-not (sizesOf n (eqb (length l) n) m cr h an) (delivered n cW cr h an) cr h an z in
-      let v = serves n (eqb (length l) n) (length m) (length cr) (length h) (length an) (t .0) in
-      let o = delivered-out n cW cr h an (λ k i e. c-sized-number n m l (asFloat cpos) (asFloat cneg) (asFloat eps) (isOn shrinking) budget room k i e .0) (sym (ap (λ (q : Handed). q .code) (t .1)) ∙ z) in
-      let i = inputs-right n (eqb (length l) n) (length m) (length cr) (length h) (length an) (t .0) in
-      (o .answer, ap (λ (q : Whole). q .out) (let-in n (eqb (length l) n) _ _ _ _ _ _ cW room i (room-fits n (length m) (v .room))) ∙ o .accepted)
+      let r = c-ran in
+      let i = inputs-right n (eqb (length l) n) (length m) (length cr) (length h) (length an) (r .0) in
+      (r .2 .out .answer, ap (λ (q : Whole). q .out) (let-in n (eqb (length l) n) _ _ _ _ _ _ cW room i (r .2 .served .room)) ∙ r .2 .out .accepted)
 
 module _ (n : ℕ) (m l : List ℕ) (nu eps shrinking budget : ℕ) (cr h an : List ℕ) (z : nuHost n m l nu eps shrinking budget cr h an .code ≡ 0) where
   abbrev nuK : Fit
@@ -146,24 +200,25 @@ module _ (n : ℕ) (m l : List ℕ) (nu eps shrinking budget : ℕ) (cr h an : L
   abbrev nuW : Whole
   nuW = fitNuSized n m l (asFloat nu) (asFloat eps) (isOn shrinking) budget room
 
-  pub nu-gives : Gives nuK m budget (nuHost n m l nu eps shrinking budget cr h an)
+  nu-ran : (sizesOf n (eqb (length l) n) m cr h an ≡ 0) × (nuJudged n m l (asFloat nu) (asFloat eps) budget ≡ Fine) × Ran nuK m cr h budget nuW (nuHost n m l nu eps shrinking budget cr h an)
   unfolding nuHost fitNuSized
-  nu-gives =
-      let t = turned-not (sizesOf n (eqb (length l) n) m cr h an) (delivered n nuW cr h an) cr h an z in
-      let v = serves n (eqb (length l) n) (length m) (length cr) (length h) (length an) (t .0) in
-      let o = delivered-out n nuW cr h an (λ k i e. nu-sized-number n m l (asFloat nu) (asFloat eps) (isOn shrinking) budget room k i e .0) (sym (ap (λ (q : Handed). q .code) (t .1)) ∙ z) in
-      let j = decided-in (fitOver nuK m budget) room (o .answer) (nuJudged n m l (asFloat nu) (asFloat eps) budget) (o .accepted) in
-      rw (t .1) (gives nuK m cr h an budget nuW refl v (usable-nu n m budget (v .room .most) (v .room .matrix) l (asFloat nu) (asFloat eps) (j .0)) (delivered n nuW cr h an) o (j .1))
+  nu-ran =
+      ran nuK m cr h an budget (sizesOf n (eqb (length l) n) m cr h an) (nuJudged n m l (asFloat nu) (asFloat eps) budget) refl
+      (serves n (eqb (length l) n) (length m) (length cr) (length h) (length an))
+      (λ most long. usable-nu n m budget most long l (asFloat nu) (asFloat eps))
+      (λ q i e. nu-sized-number n m l (asFloat nu) (asFloat eps) (isOn shrinking) budget room q i e .0)
+      z
+
+  pub nu-gives : Gives nuK m budget (nuHost n m l nu eps shrinking budget cr h an)
+  nu-gives = gives (nu-ran .2)
 
   -- the entry accepts, so all that is promised of it holds
   pub nu-called : (x : Answer) × (fitNuOf n m l (asFloat nu) (asFloat eps) (isOn shrinking) budget room .out ≡ Accepted x)
-  unfolding nuHost fitNuOf
+  unfolding fitNuOf
   nu-called =
-      let t = turned-not (sizesOf n (eqb (length l) n) m cr h an) (delivered n nuW cr h an) cr h an z in
-      let v = serves n (eqb (length l) n) (length m) (length cr) (length h) (length an) (t .0) in
-      let o = delivered-out n nuW cr h an (λ k i e. nu-sized-number n m l (asFloat nu) (asFloat eps) (isOn shrinking) budget room k i e .0) (sym (ap (λ (q : Handed). q .code) (t .1)) ∙ z) in
-      let i = inputs-right n (eqb (length l) n) (length m) (length cr) (length h) (length an) (t .0) in
-      (o .answer, ap (λ (q : Whole). q .out) (let-in n (eqb (length l) n) _ _ _ _ _ _ nuW room i (room-fits n (length m) (v .room))) ∙ o .accepted)
+      let r = nu-ran in
+      let i = inputs-right n (eqb (length l) n) (length m) (length cr) (length h) (length an) (r .0) in
+      (r .2 .out .answer, ap (λ (q : Whole). q .out) (let-in n (eqb (length l) n) _ _ _ _ _ _ nuW room i (r .2 .served .room)) ∙ r .2 .out .accepted)
 
 module _ (n : ℕ) (m : List ℕ) (nu eps shrinking budget : ℕ) (cr h an : List ℕ) (z : oneClassHost n m nu eps shrinking budget cr h an .code ≡ 0) where
   abbrev oneClassK : Fit
@@ -172,21 +227,22 @@ module _ (n : ℕ) (m : List ℕ) (nu eps shrinking budget : ℕ) (cr h an : Lis
   abbrev oneClassW : Whole
   oneClassW = fitOneClassSized n m (asFloat nu) (asFloat eps) (isOn shrinking) budget room
 
-  pub one-class-gives : Gives oneClassK m budget (oneClassHost n m nu eps shrinking budget cr h an)
+  one-class-ran : (sizesOf n true m cr h an ≡ 0) × (oneClassJudged n m (asFloat nu) (asFloat eps) budget ≡ Fine) × Ran oneClassK m cr h budget oneClassW (oneClassHost n m nu eps shrinking budget cr h an)
   unfolding oneClassHost fitOneClassSized
-  one-class-gives =
-      let t = turned-not (sizesOf n true m cr h an) (delivered n oneClassW cr h an) cr h an z in
-      let v = serves n true (length m) (length cr) (length h) (length an) (t .0) in
-      let o = delivered-out n oneClassW cr h an (λ k i e. one-class-sized-number n m (asFloat nu) (asFloat eps) (isOn shrinking) budget room k i e .0) (sym (ap (λ (q : Handed). q .code) (t .1)) ∙ z) in
-      let j = decided-in (fitOver oneClassK m budget) room (o .answer) (oneClassJudged n m (asFloat nu) (asFloat eps) budget) (o .accepted) in
-      rw (t .1) (gives oneClassK m cr h an budget oneClassW refl v (usable-one-class n m budget (v .room .most) (v .room .matrix) (asFloat nu) (asFloat eps) (j .0)) (delivered n oneClassW cr h an) o (j .1))
+  one-class-ran =
+      ran oneClassK m cr h an budget (sizesOf n true m cr h an) (oneClassJudged n m (asFloat nu) (asFloat eps) budget) refl
+      (serves n true (length m) (length cr) (length h) (length an))
+      (λ most long. usable-one-class n m budget most long (asFloat nu) (asFloat eps))
+      (λ q i e. one-class-sized-number n m (asFloat nu) (asFloat eps) (isOn shrinking) budget room q i e .0)
+      z
+
+  pub one-class-gives : Gives oneClassK m budget (oneClassHost n m nu eps shrinking budget cr h an)
+  one-class-gives = gives (one-class-ran .2)
 
   -- the entry accepts, so all that is promised of it holds
   pub one-class-called : (x : Answer) × (fitOneClassOf n m (asFloat nu) (asFloat eps) (isOn shrinking) budget room .out ≡ Accepted x)
-  unfolding oneClassHost fitOneClassOf
+  unfolding fitOneClassOf
   one-class-called =
-      let t = turned-not (sizesOf n true m cr h an) (delivered n oneClassW cr h an) cr h an z in
-      let v = serves n true (length m) (length cr) (length h) (length an) (t .0) in
-      let o = delivered-out n oneClassW cr h an (λ k i e. one-class-sized-number n m (asFloat nu) (asFloat eps) (isOn shrinking) budget room k i e .0) (sym (ap (λ (q : Handed). q .code) (t .1)) ∙ z) in
-      let i = inputs-right n true (length m) (length cr) (length h) (length an) (t .0) in
-      (o .answer, ap (λ (q : Whole). q .out) (let-in n true _ _ _ _ _ _ oneClassW room i (room-fits n (length m) (v .room))) ∙ o .accepted)
+      let r = one-class-ran in
+      let i = inputs-right n true (length m) (length cr) (length h) (length an) (r .0) in
+      (r .2 .out .answer, ap (λ (q : Whole). q .out) (let-in n true _ _ _ _ _ _ oneClassW room i (r .2 .served .room)) ∙ r .2 .out .accepted)

@@ -19,7 +19,8 @@ use Rattle.boxed.proofs.Step.{floor-divides}
 use Rattle.classification.specs.Entries.{generalOf, fitCOf, fitNuOf, fitOneClassOf}
 use Rattle.extreme.specs.declared.Choice.the-variants.{Pair}
 use Rattle.fits.specs.Starts.{nothing, evenly, costOf, costsTo, half, sharedTo, oneClassTo}
-use Rattle.judge.specs.Judge.{isCeiling, ceilingGood, alphaGood}
+use Rattle.judge.specs.Judge.{isCeiling, ceilingGood, alphaGood, generalJudged}
+use Rattle.judge.specs.declared.Judged.the-variants.{Fine}
 use Rattle.judge.proofs.Accepted.{general-fine, c-fine, nu-fine, one-class-fine, alpha-within, nu-within}
 use Rattle.judge.proofs.First.{first-fine}
 use Rattle.lists.proofs.Prefix.{prefix-at, filled-at}
@@ -33,19 +34,18 @@ use Rattle.promises.proofs.Starts.{ceiling-one, nu-start, one-class-sta
 
 -- ---- general: every lent ceiling is b
 
-module _ (n : ℕ) (m l : List ℕ) (c a p : List Float) (nurule : Bool) (eps : Float) (shrinking : Bool) (budget : ℕ) (d : Lent) (x : Answer)
-    (e : generalOf n m l c a p nurule eps shrinking budget d .out ≡ Accepted x) (b : Float) (fit : T (fits binary64 b)) (same : (i : ℕ) → i < n → getD c i nan ≡ b)
+module _ (n : ℕ) (m l : List ℕ) (c a p : List Float) (nurule : Bool) (eps : Float) (shrinking : Bool) (budget : ℕ) (some : 1 ≤ n)
+    (judged : generalJudged n m l c a p eps budget ≡ Fine) (b : Float) (fit : T (fits binary64 b)) (same : (i : ℕ) → i < n → getD c i nan ≡ b)
     (fit-a : (i : ℕ) → i < n → T (fits binary64 (getD a i nan))) where
   judged-b : isCeiling b ≡ true
   unfolding ceilingGood
   judged-b =
-      let some = general-served n m l c a p nurule eps shrinking budget d x e .room .some in
-      let f = general-fine n m l c a p eps budget (general-judged n m l c a p nurule eps shrinking budget d x e) in
+      let f = general-fine n m l c a p eps budget judged in
       rw (same 0 some) at (first-fine 5 (ceilingGood c) n 0 (f .ceilings) 0 (omega arith) (omega (arith, some)))
 
-  general-common : Common (generalFit n l c a p nurule eps shrinking) m b
+  pub general-common : Common (generalFit n l c a p nurule eps shrinking) m b
   general-common =
-      let f = general-fine n m l c a p eps budget (general-judged n m l c a p nurule eps shrinking budget d x e) in
+      let f = general-fine n m l c a p eps budget judged in
       record {
         ceiling = ceiling-in b fit judged-b;
         places = same;
@@ -57,16 +57,24 @@ module _ (n : ℕ) (m l : List ℕ) (c a p : List Float) (nurule : Bool) (eps : 
         floor = floor-divides;
       }
 
+module _ (n : ℕ) (m l : List ℕ) (c a p : List Float) (nurule : Bool) (eps : Float) (shrinking : Bool) (budget : ℕ) (d : Lent) (x : Answer)
+    (e : generalOf n m l c a p nurule eps shrinking budget d .out ≡ Accepted x) (b : Float) (fit : T (fits binary64 b)) (same : (i : ℕ) → i < n → getD c i nan ≡ b)
+    (fit-a : (i : ℕ) → i < n → T (fits binary64 (getD a i nan))) where
+  one-b : Common (generalFit n l c a p nurule eps shrinking) m b
+  one-b =
+      general-common n m l c a p nurule eps shrinking budget (general-served n m l c a p nurule eps shrinking budget d x e .room .some)
+      (general-judged n m l c a p nurule eps shrinking budget d x e) b fit same fit-a
+
   pub general-box : (t i : ℕ) → i < n → In b (weightAfter (generalFit n l c a p nurule eps shrinking) m d t i)
-  general-box = served-box (general-served n m l c a p nurule eps shrinking budget d x e) general-common
+  general-box = served-box (general-served n m l c a p nurule eps shrinking budget d x e) one-b
 
   pub general-no-nan : (t i j : ℕ) → pairAfter (generalFit n l c a p nurule eps shrinking) m d t ≡ Pair i j
       → Real (deltaAfter (generalFit n l c a p nurule eps shrinking) m d t i j)
-  general-no-nan = served-no-nan (general-served n m l c a p nurule eps shrinking budget d x e) general-common
+  general-no-nan = served-no-nan (general-served n m l c a p nurule eps shrinking budget d x e) one-b
 
   -- the weight behind what home answers for sample s
   pub general-home-box : (s : ℕ) → s < n → In b (lastLeft (stepsOf (generalFit n l c a p nurule eps shrinking) m d budget) s (getD a s nan))
-  general-home-box = served-home-box (general-served n m l c a p nurule eps shrinking budget d x e) general-common
+  general-home-box = served-home-box (general-served n m l c a p nurule eps shrinking budget d x e) one-b
 
 -- ---- C: one cost for both labels
 
