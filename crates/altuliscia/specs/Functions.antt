@@ -16,8 +16,8 @@ isOn flag = not (eqb flag 0)
 abbrev pub asFloat : ℕ → Float
 asFloat w = ofBits binary64 w
 
-abbrev pub sizesOf : ℕ → Bool → List ℕ → List ℕ → List ℕ → List ℕ → ℕ
-sizesOf n inputs m cr h an = hostSizes n inputs (length m) (length cr) (length h) (length an)
+abbrev pub byteSizes : ℕ → Bool → List ℕ → List ℕ → List ℕ → List ℕ → ℕ
+byteSizes n inputs m cr h an = hostSizes n inputs (length m) (length cr) (length h) (length an)
 
 abbrev pub generalInputs : ℕ → List ℕ → List ℕ → List ℕ → List ℕ → Bool
 generalInputs n l c a p = eqb (length l) n && eights n (length c) && eights n (length a) && eights n (length p)
@@ -26,7 +26,7 @@ generalInputs n l c a p = eqb (length l) n && eights n (length c) && eights n (l
 unfoldable pub generalHost : ℕ → List ℕ → List ℕ → List ℕ → List ℕ → List ℕ → ℕ → ℕ → ℕ → ℕ → List ℕ → List ℕ → List ℕ → Handed
 generalHost n m l c a p nurule eps shrinking budget cr h an =
     hostedBy
-    (sizesOf n (generalInputs n l c a p) m cr h an)
+    (byteSizes n (generalInputs n l c a p) m cr h an)
     (delivered n (generalSized n m l (floatsOf c n) (floatsOf a n) (floatsOf p n) (isOn nurule) (asFloat eps) (isOn shrinking) budget room) cr h an)
     cr
     h
@@ -35,7 +35,7 @@ generalHost n m l c a p nurule eps shrinking budget cr h an =
 unfoldable pub cHost : ℕ → List ℕ → List ℕ → ℕ → ℕ → ℕ → ℕ → ℕ → List ℕ → List ℕ → List ℕ → Handed
 cHost n m l cpos cneg eps shrinking budget cr h an =
     hostedBy
-    (sizesOf n (eqb (length l) n) m cr h an)
+    (byteSizes n (eqb (length l) n) m cr h an)
     (delivered n (fitCSized n m l (asFloat cpos) (asFloat cneg) (asFloat eps) (isOn shrinking) budget room) cr h an)
     cr
     h
@@ -44,7 +44,7 @@ cHost n m l cpos cneg eps shrinking budget cr h an =
 unfoldable pub nuHost : ℕ → List ℕ → List ℕ → ℕ → ℕ → ℕ → ℕ → List ℕ → List ℕ → List ℕ → Handed
 nuHost n m l nu eps shrinking budget cr h an =
     hostedBy
-    (sizesOf n (eqb (length l) n) m cr h an)
+    (byteSizes n (eqb (length l) n) m cr h an)
     (delivered n (fitNuSized n m l (asFloat nu) (asFloat eps) (isOn shrinking) budget room) cr h an)
     cr
     h
@@ -53,7 +53,7 @@ nuHost n m l nu eps shrinking budget cr h an =
 unfoldable pub oneClassHost : ℕ → List ℕ → ℕ → ℕ → ℕ → ℕ → List ℕ → List ℕ → List ℕ → Handed
 oneClassHost n m nu eps shrinking budget cr h an =
     hostedBy
-    (sizesOf n true m cr h an)
+    (byteSizes n true m cr h an)
     (delivered n (fitOneClassSized n m (asFloat nu) (asFloat eps) (isOn shrinking) budget room) cr h an)
     cr
     h

@@ -10,10 +10,10 @@ use Rattle.state.specs.Fields.{alpha}
 use Rattle.state.specs.Lists.{Problem, State, state}
 use Rattle.state.proofs.Kept.{ready-floats}
 use Rattle.trace.proofs.Rests.{Same, same-reconstructed}
-use Rattle.boxrun.specs.Boxed.{Lent, Boxed}
+use Rattle.boxrun.specs.Boxed.{LentBoxed, Boxed}
 
 module _ {b : Float} {p : Problem} {s : State} (f : List Float) {hi : ℕ} (e : Same (2 * p .n) hi (s .floats) f) where
-  pub kept-lent : 4 * p .n ≤ hi → Lent b p s → Lent b p (state f (s .numbers) (s .labels))
+  pub kept-lent : 4 * p .n ≤ hi → LentBoxed b p s → LentBoxed b p (state f (s .numbers) (s .labels))
   kept-lent l w = record { ready = ready-floats (w .ready) f (e .long); held = λ k h. rw (same k h) (w .held k h); label = w .label }
     where
       same : (k : ℕ) → k < p .n → alpha p (state f (s .numbers) (s .labels)) k ≡ alpha p s k

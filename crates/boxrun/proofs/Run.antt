@@ -25,7 +25,7 @@ use Rattle.trace.specs.Trace.{lookAt, pairFrom, startOf}
 use Rattle.trace.proofs.Kept.{Keeps, chosen-apart, counted-keeps, look-keeps, runs-keeps, trained-keeps}
 use Rattle.trace.proofs.Passes.{pair-look}
 use Rattle.update.specs.Update.{over, updatedState}
-use Rattle.boxrun.specs.Boxed.{OneCeiling, Lent, Boxed}
+use Rattle.boxrun.specs.Boxed.{OneCeiling, LentBoxed, Boxed}
 use Rattle.boxrun.proofs.Kept.{boxed-reconstructed}
 use Rattle.boxrun.proofs.Moved.{boxed-moved}
 use Rattle.boxrun.proofs.Started.{boxed-started}
@@ -65,20 +65,20 @@ module _ (g : Given) (m : List ℕ) {b : Float} {bs : List Float} (o : OneCeilin
       let l = chosen-below g m w i j e in
       boxed-updated o (h .kept) i j (w .run .active) (omega (arith, l .0, h .active)) (omega (arith, l .1, h .active)) (h .active) (chosen-apart g m w i j e) (step-real w i j e h)
 
-  box-runs : (s : State) → Lent b p s → (t : ℕ) → Keeps g B (runs g m bs (startOf g m bs s) t)
+  box-runs : (s : State) → LentBoxed b p s → (t : ℕ) → Keeps g B (runs g m bs (startOf g m bs s) t)
   box-runs s h t = runs-keeps g m B by-rebuilt by-moved bs by-updated (startOf g m bs s) t (record { kept = boxed-started p bs h; active = omega arith })
 
   -- every weight lies in 0..b after each pass
-  pub box-weights : (s : State) → Lent b p s → (t k : ℕ) → k < g .n → In b (alpha p (runs g m bs (startOf g m bs s) t .state) k .value)
+  pub box-weights : (s : State) → LentBoxed b p s → (t k : ℕ) → k < g .n → In b (alpha p (runs g m bs (startOf g m bs s) t .state) k .value)
   box-weights s h t k l = box-runs s h t .kept .lent .held k l .value
 
   -- and at the end, whatever the budget
-  pub box-trained : (s : State) → Lent b p s → (budget k : ℕ) → k < g .n → In b (alpha p (trained g m bs budget s .state) k .value)
+  pub box-trained : (s : State) → LentBoxed b p s → (budget k : ℕ) → k < g .n → In b (alpha p (trained g m bs budget s .state) k .value)
   box-trained s h budget k l =
       trained-keeps g m B by-rebuilt by-moved bs by-updated budget s (boxed-started p bs h) .kept .lent .held k l .value
 
   -- no step is NaN: where the pass after t steps with i and j, it steps from its last look
-  pub no-nan-runs : (s : State) → Lent b p s → (t i j : ℕ) → pairFrom g m (runs g m bs (startOf g m bs s) t) ≡ Pair i j
+  pub no-nan-runs : (s : State) → LentBoxed b p s → (t i j : ℕ) → pairFrom g m (runs g m bs (startOf g m bs s) t) ≡ Pair i j
       → Real (deltaAt p (lookAt g m (countedDown g m (runs g m bs (startOf g m bs s) t)) .state) (g .floor) i j)
   no-nan-runs s h t i j e =
       let w = runs g m bs (startOf g m bs s) t in

@@ -11,7 +11,7 @@ use Rattle.kernel.specs.Matrix.{entryAt}
 use Rattle.start.specs.Start.{laidTo, diagonalTo, gatheredTo, started}
 use Rattle.state.specs.Lists.{Problem, State, state}
 use Rattle.trace.proofs.Rests.{same-laid, same-diagonal, same-gathered}
-use Rattle.boxrun.specs.Boxed.{Lent, Boxed}
+use Rattle.boxrun.specs.Boxed.{LentBoxed, Boxed}
 use Rattle.boxrun.proofs.Kept.{kept-lent, kept-boxed}
 
 module _ (p : Problem) (f : List Float) where
@@ -41,7 +41,7 @@ module _ (p : Problem) (f : List Float) where
           ∙ before (omega arith) (omega arith)
 
 -- the diagonal in its field puts a lent state in the box
-diagonal-boxed : {b : Float} {p : Problem} {s : State} → Lent b p s
+diagonal-boxed : {b : Float} {p : Problem} {s : State} → LentBoxed b p s
     → Boxed b p (state (diagonalTo (p .n) (p .side) (p .matrix) (s .floats) (p .side)) (s .numbers) (s .labels))
 diagonal-boxed {b} {p} {s} w = record {
   lent = kept-lent {b = b} {p = p} {s = s} (diagonalTo (p .n) (p .side) (p .matrix) (s .floats) (p .side)) (same-diagonal p (s .floats) (p .side)) (omega arith) w;
@@ -51,7 +51,7 @@ diagonal-boxed {b} {p} {s} w = record {
       diagonal-own p (s .floats) (p .side) c h (omega arith);
 }
 
-pub boxed-started : (p : Problem) (bs : List Float) {b : Float} {s : State} → Lent b p s → Boxed b p (state (started p bs s) (s .numbers) (s .labels))
+pub boxed-started : (p : Problem) (bs : List Float) {b : Float} {s : State} → LentBoxed b p s → Boxed b p (state (started p bs s) (s .numbers) (s .labels))
 unfolding started
 boxed-started p bs {b} {s} w =
     let hi = 5 * p .n + p .side in

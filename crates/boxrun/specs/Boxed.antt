@@ -18,12 +18,12 @@ pub record OneCeiling (p : Problem) (floor b : Float) (bs : List Float) : Type 0
   pub floor-above : Divides floor
 
 -- before the start: every weight is from 0 to b under the ceiling b, and labels are 0 or 1
-pub record Lent (b : Float) (p : Problem) (s : State) : Type 0 where
+pub record LentBoxed (b : Float) (p : Problem) (s : State) : Type 0 where
   pub ready : Ready p s
   pub held : (k : ℕ) → k < p .n → Held b (alpha p s k)
   pub label : (k : ℕ) → k < p .n → getD (s .labels) k 0 ≤ 1
 
 -- from then on the diagonal field is the matrix's, too
 pub record Boxed (b : Float) (p : Problem) (s : State) : Type 0 where
-  pub lent : Lent b p s
+  pub lent : LentBoxed b p s
   pub own : (c : ℕ) → c < p .side → getD (s .floats) (5 * p .n + c) nan ≡ entryAt (p .side) (p .matrix) c c

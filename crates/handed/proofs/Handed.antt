@@ -11,7 +11,7 @@ use lib.Ieee.{Float, nan, binary64, toBits, fits}
 use lib.Ieee.Bits.{ofBits-fits}
 use lib.ListN.{length, getD, length-replicate}
 use Rattle.alpha.specs.Weight as Weight
-use Rattle.altuliscia.specs.Functions.{isOn, asFloat, sizesOf, generalInputs, generalHost, cHost, nuHost, oneClassHost}
+use Rattle.altuliscia.specs.Functions.{isOn, asFloat, byteSizes, generalInputs, generalHost, cHost, nuHost, oneClassHost}
 use Rattle.answer.specs.Lent.{Lent, Whole}
 use Rattle.answer.specs.declared.Answer.{Answer}
 use Rattle.answer.specs.declared.Outcome.{Outcome}
@@ -26,7 +26,7 @@ use Rattle.judge.specs.Sizes.{sizes, Room}
 use Rattle.judge.specs.declared.Judged.{Judged}
 use Rattle.judge.specs.declared.Judged.the-variants.{Fine}
 use Rattle.lists.proofs.Prefix.{prefix-at}
-use Rattle.promises.specs.Fit.{Fit, generalFit, cFit, nuFit, oneClassFit, weightAfter, stepsOf}
+use Rattle.promises.specs.Fit.{Fit, generalFit, cFit, nuFit, oneClassFit, weightAfter, stepsTaken}
 use Rattle.promises.proofs.Accepts.{decided-in}
 use Rattle.promises.proofs.Alike.{served-alike}
 use Rattle.promises.proofs.Box.{Common, served-box, served-home-box}
@@ -140,10 +140,10 @@ module _ (n : ℕ) (m l c a p : List ℕ) (nurule eps shrinking budget : ℕ) (c
   abbrev generalW : Whole
   generalW = generalSized n m l (floatsOf c n) (floatsOf a n) (floatsOf p n) (isOn nurule) (asFloat eps) (isOn shrinking) budget room
 
-  general-ran : (sizesOf n (generalInputs n l c a p) m cr h an ≡ 0) × (generalJudged n m l (floatsOf c n) (floatsOf a n) (floatsOf p n) (asFloat eps) budget ≡ Fine) × Ran generalK m cr h budget generalW (generalHost n m l c a p nurule eps shrinking budget cr h an)
+  general-ran : (byteSizes n (generalInputs n l c a p) m cr h an ≡ 0) × (generalJudged n m l (floatsOf c n) (floatsOf a n) (floatsOf p n) (asFloat eps) budget ≡ Fine) × Ran generalK m cr h budget generalW (generalHost n m l c a p nurule eps shrinking budget cr h an)
   unfolding generalHost generalSized
   general-ran =
-      ran generalK m cr h an budget (sizesOf n (generalInputs n l c a p) m cr h an) (generalJudged n m l (floatsOf c n) (floatsOf a n) (floatsOf p n) (asFloat eps) budget) refl
+      ran generalK m cr h an budget (byteSizes n (generalInputs n l c a p) m cr h an) (generalJudged n m l (floatsOf c n) (floatsOf a n) (floatsOf p n) (asFloat eps) budget) refl
       (serves n (generalInputs n l c a p) (length m) (length cr) (length h) (length an))
       (λ most long. usable-general n m budget most long l (floatsOf c n) (floatsOf a n) (floatsOf p n) (asFloat eps))
       (λ q i e. general-sized-number n m l (floatsOf c n) (floatsOf a n) (floatsOf p n) (isOn nurule) (asFloat eps) (isOn shrinking) budget room q i e .0)
@@ -163,7 +163,7 @@ module _ (n : ℕ) (m l c a p : List ℕ) (nurule eps shrinking budget : ℕ) (c
     pub general-called-box : (t i : ℕ) → i < n → In b (weightAfter generalK m room t i)
     general-called-box = served-box (general-ran .2 .served) one-b
 
-    pub general-called-home-box : (s : ℕ) → s < n → In b (lastLeft (stepsOf generalK m room budget) s (getD (floatsOf a n) s nan))
+    pub general-called-home-box : (s : ℕ) → s < n → In b (lastLeft (stepsTaken generalK m room budget) s (getD (floatsOf a n) s nan))
     general-called-home-box = served-home-box (general-ran .2 .served) one-b
 
 module _ (n : ℕ) (m l : List ℕ) (cpos cneg eps shrinking budget : ℕ) (cr h an : List ℕ) (z : cHost n m l cpos cneg eps shrinking budget cr h an .code ≡ 0) where
@@ -173,10 +173,10 @@ module _ (n : ℕ) (m l : List ℕ) (cpos cneg eps shrinking budget : ℕ) (cr h
   abbrev cW : Whole
   cW = fitCSized n m l (asFloat cpos) (asFloat cneg) (asFloat eps) (isOn shrinking) budget room
 
-  c-ran : (sizesOf n (eqb (length l) n) m cr h an ≡ 0) × (cJudged n m l (asFloat cpos) (asFloat cneg) (asFloat eps) budget ≡ Fine) × Ran cK m cr h budget cW (cHost n m l cpos cneg eps shrinking budget cr h an)
+  c-ran : (byteSizes n (eqb (length l) n) m cr h an ≡ 0) × (cJudged n m l (asFloat cpos) (asFloat cneg) (asFloat eps) budget ≡ Fine) × Ran cK m cr h budget cW (cHost n m l cpos cneg eps shrinking budget cr h an)
   unfolding cHost fitCSized
   c-ran =
-      ran cK m cr h an budget (sizesOf n (eqb (length l) n) m cr h an) (cJudged n m l (asFloat cpos) (asFloat cneg) (asFloat eps) budget) refl
+      ran cK m cr h an budget (byteSizes n (eqb (length l) n) m cr h an) (cJudged n m l (asFloat cpos) (asFloat cneg) (asFloat eps) budget) refl
       (serves n (eqb (length l) n) (length m) (length cr) (length h) (length an))
       (λ most long. usable-c n m budget most long l (asFloat cpos) (asFloat cneg) (asFloat eps))
       (λ q i e. c-sized-number n m l (asFloat cpos) (asFloat cneg) (asFloat eps) (isOn shrinking) budget room q i e .0)
@@ -200,10 +200,10 @@ module _ (n : ℕ) (m l : List ℕ) (nu eps shrinking budget : ℕ) (cr h an : L
   abbrev nuW : Whole
   nuW = fitNuSized n m l (asFloat nu) (asFloat eps) (isOn shrinking) budget room
 
-  nu-ran : (sizesOf n (eqb (length l) n) m cr h an ≡ 0) × (nuJudged n m l (asFloat nu) (asFloat eps) budget ≡ Fine) × Ran nuK m cr h budget nuW (nuHost n m l nu eps shrinking budget cr h an)
+  nu-ran : (byteSizes n (eqb (length l) n) m cr h an ≡ 0) × (nuJudged n m l (asFloat nu) (asFloat eps) budget ≡ Fine) × Ran nuK m cr h budget nuW (nuHost n m l nu eps shrinking budget cr h an)
   unfolding nuHost fitNuSized
   nu-ran =
-      ran nuK m cr h an budget (sizesOf n (eqb (length l) n) m cr h an) (nuJudged n m l (asFloat nu) (asFloat eps) budget) refl
+      ran nuK m cr h an budget (byteSizes n (eqb (length l) n) m cr h an) (nuJudged n m l (asFloat nu) (asFloat eps) budget) refl
       (serves n (eqb (length l) n) (length m) (length cr) (length h) (length an))
       (λ most long. usable-nu n m budget most long l (asFloat nu) (asFloat eps))
       (λ q i e. nu-sized-number n m l (asFloat nu) (asFloat eps) (isOn shrinking) budget room q i e .0)
@@ -227,10 +227,10 @@ module _ (n : ℕ) (m : List ℕ) (nu eps shrinking budget : ℕ) (cr h an : Lis
   abbrev oneClassW : Whole
   oneClassW = fitOneClassSized n m (asFloat nu) (asFloat eps) (isOn shrinking) budget room
 
-  one-class-ran : (sizesOf n true m cr h an ≡ 0) × (oneClassJudged n m (asFloat nu) (asFloat eps) budget ≡ Fine) × Ran oneClassK m cr h budget oneClassW (oneClassHost n m nu eps shrinking budget cr h an)
+  one-class-ran : (byteSizes n true m cr h an ≡ 0) × (oneClassJudged n m (asFloat nu) (asFloat eps) budget ≡ Fine) × Ran oneClassK m cr h budget oneClassW (oneClassHost n m nu eps shrinking budget cr h an)
   unfolding oneClassHost fitOneClassSized
   one-class-ran =
-      ran oneClassK m cr h an budget (sizesOf n true m cr h an) (oneClassJudged n m (asFloat nu) (asFloat eps) budget) refl
+      ran oneClassK m cr h an budget (byteSizes n true m cr h an) (oneClassJudged n m (asFloat nu) (asFloat eps) budget) refl
       (serves n true (length m) (length cr) (length h) (length an))
       (λ most long. usable-one-class n m budget most long (asFloat nu) (asFloat eps))
       (λ q i e. one-class-sized-number n m (asFloat nu) (asFloat eps) (isOn shrinking) budget room q i e .0)

@@ -31,7 +31,7 @@ use Rattle.travel.specs.Home.{lastLeft}
 use Rattle.travel.proofs.Home.{trained-home}
 use Rattle.travel.proofs.Travel.{travelled-trained}
 use Rattle.wire.specs.Wire.{floatAt, digits}
-use Rattle.promises.specs.Fit.{Fit, startFrom, weightAfter, pairAfter, deltaAfter, stepsOf}
+use Rattle.promises.specs.Fit.{Fit, startFrom, weightAfter, pairAfter, deltaAfter, stepsTaken}
 use Rattle.promises.proofs.Travel.{Served, ready-start, fresh-start}
 
 -- ---- what the verdict says of entries, labels and ceilings
@@ -71,7 +71,7 @@ module _ {k : Fit} {m : List ℕ} {budget : ℕ} {d : Lent} {o : Whole} (v : Ser
   one-ceiling : OneCeiling (problemOf g m) (g .floor) b (k .ceilings)
   one-ceiling = record { ceiling = c .ceiling; places = c .places; entries = λ i h. c .entries i (rw (v .square) at h); floor-above = c .floor }
 
-  lent : Boxed.Lent b (problemOf g m) (startFrom k m d)
+  lent : Boxed.LentBoxed b (problemOf g m) (startFrom k m d)
   lent = record {
     ready = ready-start v;
     held = λ i h. record {
@@ -90,7 +90,7 @@ module _ {k : Fit} {m : List ℕ} {budget : ℕ} {d : Lent} {o : Whole} (v : Ser
   served-no-nan = no-nan-runs g m one-ceiling (startFrom k m d) lent
 
   -- and at home, before sign and scaling: the weight of each sample
-  pub served-home-box : (s : ℕ) → s < g .n → In b (lastLeft (stepsOf k m d budget) s (getD (k .weights) s nan))
+  pub served-home-box : (s : ℕ) → s < g .n → In b (lastLeft (stepsTaken k m d budget) s (getD (k .weights) s nan))
   served-home-box s h =
       let w = trained g m (k .ceilings) budget (startFrom k m d) in
       let q = travelled-trained g m (k .ceilings) budget (startFrom k m d) (ready-start v) (fresh-start v) .order in

@@ -27,7 +27,7 @@ use Rattle.lists.proofs.Prefix.{prefix-at, filled-at}
 use Rattle.rounding.specs.Units.{Real}
 use Rattle.rounding.proofs.Order.{le-refl}
 use Rattle.travel.specs.Home.{lastLeft}
-use Rattle.promises.specs.Fit.{generalFit, cFit, nuFit, oneClassFit, weightAfter, pairAfter, deltaAfter, stepsOf}
+use Rattle.promises.specs.Fit.{generalFit, cFit, nuFit, oneClassFit, weightAfter, pairAfter, deltaAfter, stepsTaken}
 use Rattle.promises.proofs.Box.{Common, entries-in, labels-in, ceiling-in, weight-in, served-box, served-no-nan, served-home-box}
 use Rattle.promises.proofs.Entries.{general-judged, general-served, c-judged, c-served, nu-judged, nu-served, one-class-judged, one-class-served}
 use Rattle.promises.proofs.Starts.{ceiling-one, nu-start, one-class-start}
@@ -73,7 +73,7 @@ module _ (n : ℕ) (m l : List ℕ) (c a p : List Float) (nurule : Bool) (eps : 
   general-no-nan = served-no-nan (general-served n m l c a p nurule eps shrinking budget d x e) one-b
 
   -- the weight behind what home answers for sample s
-  pub general-home-box : (s : ℕ) → s < n → In b (lastLeft (stepsOf (generalFit n l c a p nurule eps shrinking) m d budget) s (getD a s nan))
+  pub general-home-box : (s : ℕ) → s < n → In b (lastLeft (stepsTaken (generalFit n l c a p nurule eps shrinking) m d budget) s (getD a s nan))
   general-home-box = served-home-box (general-served n m l c a p nurule eps shrinking budget d x e) one-b
 
 -- ---- C: one cost for both labels
@@ -114,7 +114,7 @@ module _ (n : ℕ) (m l : List ℕ) (cost eps : Float) (shrinking : Bool) (budge
   c-no-nan = served-no-nan (c-served n m l cost cost eps shrinking budget d x e) c-common
 
   -- the weight behind what home answers for sample s
-  pub c-home-box : (s : ℕ) → s < n → In cost (lastLeft (stepsOf (cFit n l cost cost eps shrinking) m d budget) s (getD nothing s nan))
+  pub c-home-box : (s : ℕ) → s < n → In cost (lastLeft (stepsTaken (cFit n l cost cost eps shrinking) m d budget) s (getD nothing s nan))
   c-home-box = served-home-box (c-served n m l cost cost eps shrinking budget d x e) c-common
 
 -- ---- nu and one-class: every ceiling is 1
@@ -145,7 +145,7 @@ module _ (n : ℕ) (m l : List ℕ) (nu eps : Float) (shrinking : Bool) (budget 
   nu-no-nan = served-no-nan (nu-served n m l nu eps shrinking budget d x e) nu-common
 
   -- the weight behind what home answers for sample s
-  pub nu-home-box : (s : ℕ) → s < n → In one (lastLeft (stepsOf (nuFit n l nu eps shrinking) m d budget) s (getD (sharedTo (half nu n) l nothing n) s nan))
+  pub nu-home-box : (s : ℕ) → s < n → In one (lastLeft (stepsTaken (nuFit n l nu eps shrinking) m d budget) s (getD (sharedTo (half nu n) l nothing n) s nan))
   nu-home-box = served-home-box (nu-served n m l nu eps shrinking budget d x e) nu-common
 
 module _ (n : ℕ) (m : List ℕ) (nu eps : Float) (shrinking : Bool) (budget : ℕ) (d : Lent) (x : Answer) (e : fitOneClassOf n m nu eps shrinking budget d .out ≡ Accepted x)
@@ -171,5 +171,5 @@ module _ (n : ℕ) (m : List ℕ) (nu eps : Float) (shrinking : Bool) (budget : 
   one-class-no-nan = served-no-nan (one-class-served n m nu eps shrinking budget d x e) one-class-common
 
   -- the weight behind what home answers for sample s
-  pub one-class-home-box : (s : ℕ) → s < n → In one (lastLeft (stepsOf (oneClassFit n nu eps shrinking) m d budget) s (getD (oneClassTo nu n nothing n) s nan))
+  pub one-class-home-box : (s : ℕ) → s < n → In one (lastLeft (stepsTaken (oneClassFit n nu eps shrinking) m d budget) s (getD (oneClassTo nu n nothing n) s nan))
   one-class-home-box = served-home-box (one-class-served n m nu eps shrinking budget d x e) one-class-common

@@ -17,7 +17,7 @@ use Rattle.judge.specs.Judge.{generalJudged, cJudged, nuJudged, oneClassJudged}
 use Rattle.judge.specs.declared.Judged.the-variants.{Fine}
 use Rattle.judge.proofs.Lengths.{room-of}
 use Rattle.travel.specs.Travel.{Travelled}
-use Rattle.promises.specs.Fit.{Fit, generalFit, cFit, nuFit, oneClassFit, after, homeOf}
+use Rattle.promises.specs.Fit.{Fit, generalFit, cFit, nuFit, oneClassFit, after, ownWeight}
 use Rattle.promises.proofs.Accepts.{entered-in, decided-in}
 use Rattle.promises.proofs.Home.{served-home}
 use Rattle.promises.proofs.Travel.{Served, served-travels}
@@ -53,7 +53,7 @@ module _ (n : ℕ) (m l : List ℕ) (c a p : List Float) (nurule : Bool) (eps : 
       record { square = refl; room = r; usable = usable-general n m budget (r .most) (r .matrix) l c a p eps general-judged; same = general-entered .1 ∙ general-decided .1 }
 
   -- what home answers for sample s
-  pub general-home : (s : ℕ) → s < n → getD (generalOf n m l c a p nurule eps shrinking budget d .left .home) s nan ≡ homeOf generalK m d budget s
+  pub general-home : (s : ℕ) → s < n → getD (generalOf n m l c a p nurule eps shrinking budget d .left .home) s nan ≡ ownWeight generalK m d budget s
   general-home = served-home general-served x e
 
   -- after each number of passes
@@ -84,7 +84,7 @@ module _ (n : ℕ) (m l : List ℕ) (cpos cneg eps : Float) (shrinking : Bool) (
       record { square = refl; room = r; usable = usable-c n m budget (r .most) (r .matrix) l cpos cneg eps c-judged; same = c-entered .1 ∙ c-decided .1 }
 
   -- what home answers for sample s
-  pub c-home : (s : ℕ) → s < n → getD (fitCOf n m l cpos cneg eps shrinking budget d .left .home) s nan ≡ homeOf cK m d budget s
+  pub c-home : (s : ℕ) → s < n → getD (fitCOf n m l cpos cneg eps shrinking budget d .left .home) s nan ≡ ownWeight cK m d budget s
   c-home = served-home c-served x e
 
   -- after each number of passes
@@ -115,7 +115,7 @@ module _ (n : ℕ) (m l : List ℕ) (nu eps : Float) (shrinking : Bool) (budget 
       record { square = refl; room = r; usable = usable-nu n m budget (r .most) (r .matrix) l nu eps nu-judged; same = nu-entered .1 ∙ nu-decided .1 }
 
   -- what home answers for sample s
-  pub nu-home : (s : ℕ) → s < n → getD (fitNuOf n m l nu eps shrinking budget d .left .home) s nan ≡ homeOf nuK m d budget s
+  pub nu-home : (s : ℕ) → s < n → getD (fitNuOf n m l nu eps shrinking budget d .left .home) s nan ≡ ownWeight nuK m d budget s
   nu-home = served-home nu-served x e
 
   -- after each number of passes
@@ -146,7 +146,7 @@ module _ (n : ℕ) (m : List ℕ) (nu eps : Float) (shrinking : Bool) (budget : 
       record { square = refl; room = r; usable = usable-one-class n m budget (r .most) (r .matrix) nu eps one-class-judged; same = one-class-entered .1 ∙ one-class-decided .1 }
 
   -- what home answers for sample s
-  pub one-class-home : (s : ℕ) → s < n → getD (fitOneClassOf n m nu eps shrinking budget d .left .home) s nan ≡ homeOf oneClassK m d budget s
+  pub one-class-home : (s : ℕ) → s < n → getD (fitOneClassOf n m nu eps shrinking budget d .left .home) s nan ≡ ownWeight oneClassK m d budget s
   one-class-home = served-home one-class-served x e
 
   -- after each number of passes

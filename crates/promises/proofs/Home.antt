@@ -23,7 +23,7 @@ use Rattle.solver.specs.Run.{Full}
 use Rattle.solver.specs.declared.Given.{Given}
 use Rattle.travel.specs.Home.{lastLeft}
 use Rattle.travel.proofs.Home.{trained-home}
-use Rattle.promises.specs.Fit.{Fit, startFrom, runOf, stepsOf, rOf, homeOf}
+use Rattle.promises.specs.Fit.{Fit, startFrom, runOf, stepsTaken, rOf, ownWeight}
 use Rattle.promises.proofs.Accepts.{refused-apart}
 use Rattle.promises.proofs.Travel.{Served, ready-start, fresh-start}
 
@@ -91,9 +91,9 @@ module _ {k : Fit} {m : List ℕ} {budget : ℕ} {d : Lent} {o : Whole} (v : Ser
       ∙ finished-at (k .how) (k .labels) (rOf k m d budget) (homeReading (g .n) (w .state .numbers) weights (d .home)) (g .n) s
       (rw (length-scattered (w .state .numbers) weights (d .home) (g .n)) (v .room .home)) h
 
-  pub served-home : (s : ℕ) → s < g .n → getD (o .left .home) s nan ≡ homeOf k m d budget s
+  pub served-home : (s : ℕ) → s < g .n → getD (o .left .home) s nan ≡ ownWeight k m d budget s
   served-home s h =
       served-at s h
       ∙ ap (coefficientOf (k .how) (getD (k .labels) s 0) (rOf k m d budget))
       (trained-home g m (k .ceilings) budget (startFrom k m d) (ready-start v) (fresh-start v) (d .home) (v .room .home) s h
-      ∙ ap (lastLeft (stepsOf k m d budget) s) (weight-loaded (g .n) (k .ceilings) (k .weights) (k .terms) (d .floats) (v .room .floats) (g .n) s (omega arith) h))
+      ∙ ap (lastLeft (stepsTaken k m d budget) s) (weight-loaded (g .n) (k .ceilings) (k .weights) (k .terms) (d .floats) (v .room .floats) (g .n) s (omega arith) h))

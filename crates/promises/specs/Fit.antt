@@ -73,12 +73,12 @@ module _ (k : Fit) (m : List ℕ) (d : Lent) where
   runOf budget = trained (k .given) m (k .ceilings) budget startFrom
 
   -- its steps, pass for pass
-  abbrev pub stepsOf : ℕ → List Step
-  stepsOf budget = traced (k .given) m (k .ceilings) (startOf (k .given) m (k .ceilings) startFrom) budget
+  abbrev pub stepsTaken : ℕ → List Step
+  stepsTaken budget = traced (k .given) m (k .ceilings) (startOf (k .given) m (k .ceilings) startFrom) budget
 
   abbrev pub rOf : ℕ → Float
   rOf budget = levelAt (k .given) (runOf budget) .r
 
   -- sample s at home: its start weight, or what the last step that chose it left; signed and divided as the entry answers
-  abbrev pub homeOf : ℕ → ℕ → Float
-  homeOf budget s = coefficientOf (k .how) (getD (k .labels) s 0) (rOf budget) (lastLeft (stepsOf budget) s (getD (k .weights) s nan))
+  abbrev pub ownWeight : ℕ → ℕ → Float
+  ownWeight budget s = coefficientOf (k .how) (getD (k .labels) s 0) (rOf budget) (lastLeft (stepsTaken budget) s (getD (k .weights) s nan))

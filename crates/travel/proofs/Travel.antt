@@ -165,8 +165,8 @@ module _ (g : Given) (m : List ℕ) where
   q = problemOf g m
 
   -- ready, with an active count of n at the most
-  abbrev pub Fit : Full → Type 0
-  Fit = Keeps g (Ready q)
+  abbrev pub ReadyRun : Full → Type 0
+  ReadyRun = Keeps g (Ready q)
 
   ready-rebuilt : (s : State) (a : ℕ) → a ≤ g .n → Ready q s → Ready q (over s (reconstructed q a s))
   ready-rebuilt s a l r = ready-floats r (reconstructed q a s) (reconstructed-stays q s a l .long)
@@ -174,7 +174,7 @@ module _ (g : Given) (m : List ℕ) where
   ready-move : (s : State) (i j : ℕ) → i < g .n → j < g .n → Ready q s → Ready q (moved (g .n) s i j)
   ready-move s i j a b r = ready-moved r i j a b
 
-  rebuilt-stays : (w : Full) → Fit w → Stays (g .n) (w .state) (rebuilt g m w .state)
+  rebuilt-stays : (w : Full) → ReadyRun w → Stays (g .n) (w .state) (rebuilt g m w .state)
   unfolding rebuilt
   rebuilt-stays w k = reconstructed-stays q (w .state) (w .run .active) (k .active)
 
@@ -187,19 +187,19 @@ module _ (g : Given) (m : List ℕ) where
   shrinks-none : (s : State) → Shrinks s s
   shrinks-none s = record { before = s; stays = stays-none (g .n) s; moves = rearranged-none q s }
 
-  restored-stays : (level : Float) (w : Full) → Fit w → Stays (g .n) (w .state) (restored g m level w .state) × Fit (restored g m level w)
+  restored-stays : (level : Float) (w : Full) → ReadyRun w → Stays (g .n) (w .state) (restored g m level w .state) × ReadyRun (restored g m level w)
   unfolding restored
   restored-stays level w k = go (not (w .run .unshrink) && le level (mul binary64 (g .eps) ten))
     where
       go : (x : Bool) → Stays (g .n) (w .state) (cond x (withRun (rebuilt g m w) (reopened (w .run) (g .n))) w .state)
-          × Fit (cond x (withRun (rebuilt g m w) (reopened (w .run) (g .n))) w)
+          × ReadyRun (cond x (withRun (rebuilt g m w) (reopened (w .run) (g .n))) w)
       go true = (
         rebuilt-stays w k,
         record { kept = rebuilt-keeps g m (Ready q) ready-rebuilt ready-move w k .kept; active = omega arith },
       )
       go false = (stays-none (g .n) (w .state), k)
 
-  shrunk-moves : (w : Full) → Fit w → Shrinks (w .state) (shrunk g m w .state)
+  shrunk-moves : (w : Full) → ReadyRun w → Shrinks (w .state) (shrunk g m w .state)
   unfolding shrunk walkedFrom
   shrunk-moves w k =
       let t = topsOf g m w in
@@ -207,7 +207,7 @@ module _ (g : Given) (m : List ℕ) where
       let e = restored-stays (t .level) w k in
       record { before = v .state; stays = e .0; moves = one-rearrangement q (t .limits) (v .run .active) (v .state) (e .1 .active) (e .1 .kept) }
 
-  pub counted-moves : (w : Full) → Fit w → Shrinks (w .state) (countedDown g m w .state)
+  pub counted-moves : (w : Full) → ReadyRun w → Shrinks (w .state) (countedDown g m w .state)
   unfolding countedDown
   counted-moves w k = go (ltb 0 (w .run .counter - 1)) (g .shrinking)
     where
@@ -219,16 +219,16 @@ module _ (g : Given) (m : List ℕ) where
       go false true = shrunk-moves v (record { kept = k .kept; active = k .active })
       go false false = shrinks-none (w .state)
 
-  counted-fit : (w : Full) → Fit w → Fit (countedDown g m w)
+  counted-fit : (w : Full) → ReadyRun w → ReadyRun (countedDown g m w)
   counted-fit w k = counted-keeps g m (Ready q) ready-rebuilt ready-move w k
 
-  look-fit : (v : Full) (c : Choice) → Fit v → Stays (g .n) (v .state) (lookBy g m v c .state) × Ready q (lookBy g m v c .state)
+  look-fit : (v : Full) (c : Choice) → ReadyRun v → Stays (g .n) (v .state) (lookBy g m v c .state) × Ready q (lookBy g m v c .state)
   unfolding lookBy
   look-fit v (Pair i j) k = (stays-none (g .n) (v .state), k .kept)
   look-fit v Optimal k = (rebuilt-stays v k, rebuilt-keeps g m (Ready q) ready-rebuilt ready-move v k .kept)
 
   -- looks, reconstruction and update
-  pub pass-stays : (b : List Float) (w : Full) → Fit w → Stays (g .n) (countedDown g m w .state) (passed g m b w .state)
+  pub pass-stays : (b : List Float) (w : Full) → ReadyRun w → Stays (g .n) (countedDown g m w .state) (passed g m b w .state)
   pass-stays b w k = go (pairFrom g m w) refl
     where
       v : Full
