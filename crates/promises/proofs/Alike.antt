@@ -1,6 +1,6 @@
 -- With shrinking off the two lists that an entry answers are one and the same. Assumes nothing.
 use Prim.Native.Nat.{ℕ, _<_}
-use mathlib.Core.Bool.{Bool, true, false}
+use mathlib.Core.Bool.{Bool, false}
 use mathlib.Core.List.{List}
 use mathlib.Core.Path.{_≡_, refl, sym, ap, _∙_}
 use native.Mathlib.Omega.{arith}
@@ -9,28 +9,19 @@ use lib.ListN.{length, getD}
 use Rattle.answer.specs.Answer.{coefficientOf}
 use Rattle.answer.specs.Lent.{Lent, Whole}
 use Rattle.answer.specs.Solved as Solved
-use Rattle.answer.specs.Solved.{stuck, levelAt, settledBy, solved}
 use Rattle.answer.specs.declared.Answer.{Answer}
-use Rattle.answer.specs.declared.Finish.{Finish}
 use Rattle.answer.specs.declared.Outcome.the-variants.{Accepted}
-use Rattle.classification.specs.Entries.{fitted, generalOf, fitCOf, fitNuOf, fitOneClassOf}
+use Rattle.classification.specs.Entries.{generalOf, fitCOf, fitNuOf, fitOneClassOf}
 use Rattle.fits.proofs.Loaded.{length-numbers, sample-loaded}
 use Rattle.readings.specs.Order.{crateReading, weightIn, Perm}
 use Rattle.readings.proofs.Order.{length-gathered, crate-at, home-at}
 use Rattle.solver.specs.Run.{Full}
 use Rattle.solver.specs.declared.Given.{Given}
 use Rattle.promises.specs.Fit.{Fit, startFrom, runOf, rOf}
-use Rattle.promises.proofs.Accepts.{refused-apart}
 use Rattle.promises.proofs.Entries.{general-served, c-served, nu-served, one-class-served}
-use Rattle.promises.proofs.Home.{finished-at, served-at}
+use Rattle.promises.proofs.Home.{finished-at, served-lists, served-at}
 use Rattle.promises.proofs.Still.{trained-still}
 use Rattle.promises.proofs.Travel.{Served}
-
-settled-crate : (b : Bool) (g : Given) (how : Finish) (l : List ℕ) (budget : ℕ) (w : Full) (c h : List Float) (x : Answer)
-    → settledBy b g how l budget w c h .out ≡ Accepted x → settledBy b g how l budget w c h .crate ≡ Solved.crateOf g how l w (levelAt g w) c
-unfolding settledBy
-settled-crate true g how l budget w c h x e = absurd (refused-apart 11 0 x e)
-settled-crate false g how l budget w c h x e = refl
 
 module _ {k : Fit} {m : List ℕ} {budget : ℕ} {d : Lent} {o : Whole} (v : Served k m budget d o) (x : Answer) (e : o .out ≡ Accepted x) (off : k .given .shrinking ≡ false) where
   abbrev g : Given
@@ -62,16 +53,10 @@ module _ {k : Fit} {m : List ℕ} {budget : ℕ} {d : Lent} {o : Whole} (v : Ser
     only = own-place;
   }
 
-  crate-list : o .left .crate ≡ Solved.crateOf g (k .how) (k .labels) w (levelAt g w) (d .crate)
-  unfolding fitted solved
-  crate-list =
-      ap (λ (q : Whole). q .left .crate) (v .same)
-      ∙ settled-crate (stuck (w .run .status)) g (k .how) (k .labels) budget w (d .crate) (d .home) x (sym (ap (λ (q : Whole). q .out) (v .same)) ∙ e)
-
   pub served-alike : (s : ℕ) → s < g .n → getD (o .left .crate) s nan ≡ getD (o .left .home) s nan
   unfolding Solved.crateOf own-order
   served-alike s h =
-      ap (λ (t : List Float). getD t s nan) crate-list
+      ap (λ (t : List Float). getD t s nan) (served-lists v x e .0)
       ∙ finished-at (k .how) (k .labels) (rOf k m d budget) (crateReading (g .n) (w .state .numbers) weights (d .crate)) (g .n) s
       (rw (length-gathered (w .state .numbers) weights (d .crate) (g .n)) (v .room .crate)) h
       ∙ ap (coefficientOf (k .how) (getD (k .labels) s 0) (rOf k m d budget))

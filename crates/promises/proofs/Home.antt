@@ -60,11 +60,11 @@ module _ (how : Finish) (l : List ℕ) (r : Float) (d : List Float) where
 
 -- ---- what a fit hands out
 
-settled-home : (b : Bool) (g : Given) (how : Finish) (l : List ℕ) (budget : ℕ) (w : Full) (c h : List Float) (x : Answer)
-    → settledBy b g how l budget w c h .out ≡ Accepted x → settledBy b g how l budget w c h .home ≡ Solved.homeOf g how l w (levelAt g w) h
+settled-lists : (b : Bool) (g : Given) (how : Finish) (l : List ℕ) (budget : ℕ) (w : Full) (c h : List Float) (x : Answer) → settledBy b g how l budget w c h .out ≡ Accepted x
+    → (settledBy b g how l budget w c h .crate ≡ Solved.crateOf g how l w (levelAt g w) c) × (settledBy b g how l budget w c h .home ≡ Solved.homeOf g how l w (levelAt g w) h)
 unfolding settledBy
-settled-home true g how l budget w c h x e = absurd (refused-apart 11 0 x e)
-settled-home false g how l budget w c h x e = refl
+settled-lists true g how l budget w c h x e = absurd (refused-apart 11 0 x e)
+settled-lists false g how l budget w c h x e = (refl, refl)
 
 module _ {k : Fit} {m : List ℕ} {budget : ℕ} {d : Lent} {o : Whole} (v : Served k m budget d o) (x : Answer) (e : o .out ≡ Accepted x) where
   abbrev g : Given
@@ -76,18 +76,18 @@ module _ {k : Fit} {m : List ℕ} {budget : ℕ} {d : Lent} {o : Whole} (v : Ser
   abbrev weights : ℕ → Float
   weights = weightIn (g .n) (w .state .floats)
 
-  -- the home list that it answers: the home reading of what the run left, signed and divided
-  served-list : o .left .home ≡ Solved.homeOf g (k .how) (k .labels) w (levelAt g w) (d .home)
+  -- the lists that it answers: the readings of what the run left, signed and divided
+  pub served-lists : (o .left .crate ≡ Solved.crateOf g (k .how) (k .labels) w (levelAt g w) (d .crate)) × (o .left .home ≡ Solved.homeOf g (k .how) (k .labels) w (levelAt g w) (d .home))
   unfolding fitted solved
-  served-list =
-      ap (λ (q : Whole). q .left .home) (v .same)
-      ∙ settled-home (stuck (w .run .status)) g (k .how) (k .labels) budget w (d .crate) (d .home) x (sym (ap (λ (q : Whole). q .out) (v .same)) ∙ e)
+  served-lists =
+      let r = settled-lists (stuck (w .run .status)) g (k .how) (k .labels) budget w (d .crate) (d .home) x (sym (ap (λ (q : Whole). q .out) (v .same)) ∙ e) in
+      (ap (λ (q : Whole). q .left .crate) (v .same) ∙ r .0, ap (λ (q : Whole). q .left .home) (v .same) ∙ r .1)
 
   pub served-at : (s : ℕ) → s < g .n
       → getD (o .left .home) s nan ≡ coefficientOf (k .how) (getD (k .labels) s 0) (rOf k m d budget) (getD (homeReading (g .n) (w .state .numbers) weights (d .home)) s nan)
   unfolding Solved.homeOf
   served-at s h =
-      ap (λ (t : List Float). getD t s nan) served-list
+      ap (λ (t : List Float). getD t s nan) (served-lists .1)
       ∙ finished-at (k .how) (k .labels) (rOf k m d budget) (homeReading (g .n) (w .state .numbers) weights (d .home)) (g .n) s
       (rw (length-scattered (w .state .numbers) weights (d .home) (g .n)) (v .room .home)) h
 

@@ -15,6 +15,7 @@ pub use trouble::Trouble;
 
 use altuliscia::{fit_c, fit_nu, fit_one_class, Answer, OneClass, Options, Problem, Refusal};
 use arguments::{Call, Command, Fit, Settings, Words};
+use faults::Fault;
 use problem::Samples;
 use std::io::Write;
 
@@ -39,12 +40,8 @@ fn carried_out(
     terminal: bool,
 ) -> Result<(), Trouble> {
     let path = call.model_path();
-    if call.command == Command::Train && save::one_file(&call.file, &path) {
-        let told = format!(
-            "'{}' is the problem itself: the model would replace it",
-            path
-        );
-        return Err(Trouble::Usage(told));
+    if call.command == Command::Train {
+        never_the_problem(call, &path)?;
     }
     let samples = progress::shown(err, terminal, "reading", || {
         problem::read(&call.file, call.settings.fit)
@@ -53,13 +50,7 @@ fn carried_out(
     let ceilings = settings.ceilings(&samples)?;
     let faults = faults::faults(&samples, settings, ceilings);
     if call.command == Command::Check {
-        if !settings.quiet || !faults.is_empty() {
-            tell(out, &faults::told(&samples, &faults))?;
-        }
-        return match faults.into_iter().next() {
-            Some(first) => Err(Trouble::Faults(first.refusal)),
-            None => Ok(()),
-        };
+        return checked(&samples, settings, faults, out);
     }
     if let Some(first) = faults.into_iter().next() {
         return Err(Trouble::Refused(first.place, first.refusal));
@@ -78,6 +69,32 @@ fn carried_out(
     // Where standard error takes nothing, there is no place left to say so.
     let _ = err.write_all(report::beside(&samples, settings, &answer).as_bytes());
     Ok(())
+}
+
+fn never_the_problem(call: &Call, path: &str) -> Result<(), Trouble> {
+    if !save::one_file(&call.file, path) {
+        return Ok(());
+    }
+    let told = format!(
+        "'{}' is the problem itself: the model would replace it",
+        path
+    );
+    Err(Trouble::Usage(told))
+}
+
+fn checked(
+    s: &Samples,
+    settings: &Settings,
+    faults: Vec<Fault>,
+    out: &mut dyn Write,
+) -> Result<(), Trouble> {
+    if !settings.quiet || !faults.is_empty() {
+        tell(out, &faults::told(s, &faults))?;
+    }
+    match faults.into_iter().next() {
+        Some(first) => Err(Trouble::Faults(first.refusal)),
+        None => Ok(()),
+    }
 }
 
 /// Trains a problem without faults.
