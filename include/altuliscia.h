@@ -1,10 +1,10 @@
-/* Altuliscia: the trainer of a sorter, as four C functions in libaltuliscia.a (x86-64).
+/* Altuliscia: the trainer of a sorter, as five C functions in libaltuliscia.a (x86-64).
  *
  * Lists. A slice is a pointer and its length in bytes. A list of n doubles is 8n bytes: each double stands in eight bytes, lowest
  * first, which is how x86-64 keeps a double in memory. The matrix is 8*n*n bytes: the double of column c, row r stands in the
- * eight bytes from 8*(c*n + r); it need not be symmetric. Labels are n bytes, 1 positive, 0 negative. Slices may stand at any
- * address, odd ones too. A slice of length 0 may be NULL. What is written (crate_reading, home, answer) may overlap nothing else
- * that is lent.
+ * eight bytes from 8*(c*n + r); it need not be symmetric. Labels are n bytes, 1 positive, 0 negative; retired bytes are n, 1
+ * retired, 0 not. Slices may stand at any address, odd ones too. A slice of length 0 may be NULL. What is written (crate_reading,
+ * home, answer) may overlap nothing else that is lent.
  *
  * Numbers. eps, cpos, cneg and nu are doubles that travel as the uint64_t with the same eight bytes (memcpy). A flag is on when it
  * isn't 0.
@@ -19,7 +19,7 @@
  * moved and the order isn't its own inverse.
  *
  * Threads and stack. A call keeps no state and shares nothing: calls from several threads may overlap in time. It asks for no
- * memory but its stack, of which it needs less than ALTULISCIA_STACK_BYTES (60009 were measured), and calls nothing from outside
+ * memory but its stack, of which it needs less than ALTULISCIA_STACK_BYTES (61575 were measured), and calls nothing from outside
  * but memset. Every call ends, after at most `budget` passes.
  *
  * docs/BYTES.md has all of this at more length, with an answer in hex.
@@ -62,14 +62,14 @@ enum altuliscia_reason {
     ALTULISCIA_ITERATIONS = 1
 };
 
-/* Why a call was refused. The lowest number that applies is given. A number keeps its meaning for good: one that is retired is
- * never given to anything else. */
+/* Why a call was refused. The first that applies is given, in the order of the numbers. A number keeps its meaning for good: one
+ * that falls out of use is never given to anything else. */
 enum altuliscia_refusal {
     ALTULISCIA_ACCEPTED = 0,
     /* The number of samples is 0 or above 512: lend 1 to 512 samples. */
     ALTULISCIA_BAD_SAMPLES = 1,
-    /* A list has the wrong length: lend a matrix of 8*n*n bytes, n labels, 8n bytes for each list of doubles, at least 8n bytes
-     * for each result list and at least 72 for the answer. */
+    /* A list has the wrong length: lend a matrix of 8*n*n bytes, n labels, n retired bytes, 8n bytes for each list of doubles, an
+     * empty tuning, at least 8n bytes for each result list and at least 72 for the answer. */
     ALTULISCIA_BAD_LENGTH = 2,
     /* A kernel entry is NaN, infinite or above 2^1000 in magnitude: the index is column*n + row; scale the kernel down or mend
      * that entry. */
@@ -90,7 +90,11 @@ enum altuliscia_refusal {
     /* The budget is 0 or above 10000000: give 1 to 10000000 passes. */
     ALTULISCIA_BAD_BUDGET = 10,
     /* Shrinking would have taken more samples out than were active: train with shrinking off, which avoids it. */
-    ALTULISCIA_SHRUNK_AWAY = 11
+    ALTULISCIA_SHRUNK_AWAY = 11,
+    /* A retired byte is neither 0 nor 1: write 1 for a retired sample, 0 for any other. */
+    ALTULISCIA_BAD_RETIRED = 12,
+    /* Shrinking is asked for where samples may be retired: train with shrinking off. */
+    ALTULISCIA_RETIRED_SHRINKING = 13
 };
 
 /* Trains from given lists: labels (n bytes), ceilings, start alphas and linear term (8n bytes each), under the C rule or, where
@@ -100,6 +104,20 @@ uint64_t altuliscia_general(size_t n, const uint8_t *matrix, size_t matrix_len, 
                             const uint8_t *linear, size_t linear_len, uint8_t nu_rule, uint64_t eps, uint8_t shrinking,
                             uint64_t budget, uint8_t *crate_reading, size_t crate_reading_len, uint8_t *home, size_t home_len,
                             uint8_t *answer, size_t answer_len);
+
+/* As altuliscia_general, weights unsigned, but a sample whose byte in `retired` is 1 is passed over: it starts at 0 with linear
+ * term 0 (so the start alphas of the others must balance without its own), no pair is chosen with it, rho and obj leave it out, and
+ * both lists have +0 for it. What is lent for it (label, ceiling, start alpha, linear term, its row and column of the matrix) is
+ * judged as any other's and has no say in the answer. Every sample keeps its number. Shrinking must be off (refusal 13), so both
+ * lists are the same and refusal 11 doesn't occur; retired bytes other than 0 and 1 are refusal 12. The order is 1 to 8, 10, 12,
+ * 13. `tuning` is a list of eight-byte words for what later versions may be told; this one knows none, so its length is 0, else it
+ * is refusal 2. */
+uint64_t altuliscia_retired(size_t n, const uint8_t *matrix, size_t matrix_len, const uint8_t *labels, size_t labels_len,
+                            const uint8_t *ceilings, size_t ceilings_len, const uint8_t *alphas, size_t alphas_len,
+                            const uint8_t *linear, size_t linear_len, const uint8_t *retired, size_t retired_len, uint8_t nu_rule,
+                            uint64_t eps, uint8_t shrinking, uint64_t budget, const uint8_t *tuning, size_t tuning_len,
+                            uint8_t *crate_reading, size_t crate_reading_len, uint8_t *home, size_t home_len, uint8_t *answer,
+                            size_t answer_len);
 
 /* Two classes with a cost: cpos is the ceiling of positive samples, cneg that of negative ones. Both readings are signed by
  * label. */

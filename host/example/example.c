@@ -1,4 +1,4 @@
-/* Trains on two samples with the identity as kernel matrix, and prints the answer. */
+/* Trains on two samples with the identity as kernel matrix, then with a third between them that is retired, and prints the answers. */
 #include "altuliscia.h"
 
 #include <inttypes.h>
@@ -32,6 +32,32 @@ static const uint8_t *bytes(const double *list) {
     return (const uint8_t *)list;
 }
 
+/* Says so where a call was refused. */
+static int refused(uint64_t refusal, const uint8_t *answer) {
+    if (refusal != ALTULISCIA_ACCEPTED)
+        printf("refused with %" PRIu64 " at index %" PRIu64 "\n", refusal, number_at(answer, ALTULISCIA_AT_INDEX));
+    return refusal != ALTULISCIA_ACCEPTED;
+}
+
+/* The same two samples as numbers 0 and 2: what is lent for sample 1 has no say. The weights aren't signed by label here. */
+static int train_retired(void) {
+    const double matrix[] = {1, 5, 0, 5, 5, 5, 0, 5, 1};
+    const double ceilings[] = {1, 1, 1}, alphas[] = {0, 0, 0}, linear[] = {-1, -1, -1};
+    const uint8_t labels[] = {1, 1, 0}, retired[] = {0, 1, 0};
+    double crate_reading[3], home[3];
+    uint8_t answer[ALTULISCIA_ANSWER_BYTES];
+
+    uint64_t refusal = altuliscia_retired(3, bytes(matrix), sizeof matrix, labels, sizeof labels, bytes(ceilings), sizeof ceilings,
+                                          bytes(alphas), sizeof alphas, bytes(linear), sizeof linear, retired, sizeof retired,
+                                          0 /* nu_rule */, bits(0.001) /* eps */, 0 /* shrinking */, 1000 /* budget */,
+                                          NULL, 0 /* tuning */, (uint8_t *)crate_reading, sizeof crate_reading,
+                                          (uint8_t *)home, sizeof home, answer, sizeof answer);
+    if (refused(refusal, answer))
+        return 1;
+    printf("retired 1   weights %g %g %g, obj %g\n", home[0], home[1], home[2], double_at(answer, ALTULISCIA_AT_OBJ));
+    return 0;
+}
+
 int main(void) {
     const double matrix[N * N] = {1, 0, 0, 1};
     const uint8_t labels[N] = {1, 0};
@@ -41,10 +67,8 @@ int main(void) {
     uint64_t refusal = altuliscia_c(N, bytes(matrix), sizeof matrix, labels, sizeof labels,
                                     bits(1.0) /* cpos */, bits(1.0) /* cneg */, bits(0.001) /* eps */, 0 /* shrinking */, 1000 /* budget */,
                                     (uint8_t *)crate_reading, sizeof crate_reading, (uint8_t *)home, sizeof home, answer, sizeof answer);
-    if (refusal != ALTULISCIA_ACCEPTED) {
-        printf("refused with %" PRIu64 " at index %" PRIu64 "\n", refusal, number_at(answer, ALTULISCIA_AT_INDEX));
+    if (refused(refusal, answer))
         return 1;
-    }
 
     printf("rho         %g\n", double_at(answer, ALTULISCIA_AT_RHO));
     printf("obj         %g\n", double_at(answer, ALTULISCIA_AT_OBJ));
@@ -53,6 +77,9 @@ int main(void) {
     printf("support     %" PRIu64 "\n", number_at(answer, ALTULISCIA_AT_SUPPORT));
     for (size_t k = 0; k < N; k++)
         printf("sample %zu    %g\n", k, home[k]);
+
+    if (train_retired())
+        return 1;
 
     /* A refusal: no sample at all. */
     refusal = altuliscia_c(0, NULL, 0, NULL, 0, bits(1.0), bits(1.0), bits(0.001), 0, 1000, NULL, 0, NULL, 0, answer, sizeof answer);

@@ -8,11 +8,11 @@
 #include <stdlib.h>
 #include <string.h>
 
-enum { MOST = 512, ROOM = 1 << 20, PAINT = 0xa5, RUNS = 400 };
+enum { MOST = 512, ROOM = 1 << 20, PAINT = 0xa5, RUNS = 400, FUNCTIONS = 5 };
 
 static double matrix[MOST * MOST], ceilings[MOST], alphas[MOST], linear[MOST], crate_reading[MOST], home[MOST];
-static uint8_t labels[MOST], answer[ALTULISCIA_ANSWER_BYTES];
-static uint64_t state, refused[12];
+static uint8_t labels[MOST], retired[MOST], answer[ALTULISCIA_ANSWER_BYTES];
+static uint64_t state, accepted;
 static uintptr_t call_begins;
 
 static uint64_t below(uint64_t k) {
@@ -35,6 +35,7 @@ static void fill(size_t n) {
         for (size_t d = 0; d < 3; d++)
             points[k][d] = (double)below(9) - 4;
         labels[k] = (uint8_t)below(2);
+        retired[k] = below(4) == 0;
         ceilings[k] = 1 + (double)below(3);
         alphas[k] = (double)below(2);
         linear[k] = (double)below(9) - 4;
@@ -59,27 +60,31 @@ static uint64_t call(int which, size_t n, uint8_t shrinking) {
                             sizeof answer);
     case 2:
         return altuliscia_nu(n, m, square, labels, n, bits(0.4), eps, shrinking, budget, c, list, h, list, answer, sizeof answer);
-    default:
+    case 3:
         return altuliscia_one_class(n, m, square, bits(0.4), eps, shrinking, budget, c, list, h, list, answer, sizeof answer);
+    default:
+        return altuliscia_retired(n, m, square, labels, n, (const uint8_t *)ceilings, list, (const uint8_t *)alphas, list,
+                                  (const uint8_t *)linear, list, retired, n, (uint8_t)below(2), eps, 0, budget, NULL, 0, c, list, h,
+                                  list, answer, sizeof answer);
     }
 }
 
 static void *work(void *which) {
     char here = 0;
     call_begins = (uintptr_t)&here;
+    accepted = 0;
     for (int k = 0; k < RUNS; k++) {
         size_t n = k == 0 ? MOST : 2 + below(30);
         fill(n);
-        uint64_t number = call(*(int *)which, n, k % 4 != 1);
-        refused[number < 12 ? number : 0]++;
+        accepted += call(*(int *)which, n, k % 4 != 1) == ALTULISCIA_ACCEPTED;
     }
     return NULL;
 }
 
 int main(void) {
-    static const char *names[] = {"general", "c", "nu", "one_class"};
+    static const char *names[FUNCTIONS] = {"general", "c", "nu", "one_class", "retired"};
     size_t most = 0;
-    for (int which = 0; which < 4; which++) {
+    for (int which = 0; which < FUNCTIONS; which++) {
         void *stack;
         pthread_attr_t attributes;
         pthread_t thread;
@@ -97,10 +102,10 @@ int main(void) {
         printf("altuliscia_%-10s %6zu bytes of stack\n", names[which], used);
         most = used > most ? used : most;
         free(stack);
-    }
-    if (refused[0] < 2 * RUNS) {
-        printf("only %d calls were accepted\n", (int)refused[0]);
-        return 1;
+        if (accepted < RUNS / 2) {
+            printf("only %d of %d calls were accepted\n", (int)accepted, RUNS);
+            return 1;
+        }
     }
     printf("the header says %d at the most\n", ALTULISCIA_STACK_BYTES);
     return most > ALTULISCIA_STACK_BYTES;

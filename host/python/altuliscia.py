@@ -1,4 +1,4 @@
-"""The proved trainer of a sorter, for Python: the four functions of include/altuliscia.h.
+"""The proved trainer of a sorter, for Python: the five functions of include/altuliscia.h.
 
 It needs the library as a shared object, which is made on x86-64 from the archive at the root of the repository by
 
@@ -22,9 +22,18 @@ Python's standard library is used.
     altuliscia.Refusal: refusal 3 at index 2: A kernel entry is NaN, infinite or above 2^1000 in magnitude: the index is \
 column*n + row; scale the kernel down or mend that entry.
 
+A sample whose caption was withdrawn is retired: the others are trained without it and keep their numbers.
+
+    >>> fit = altuliscia.fit_c([[1, 5, 0], [5, 5, 5], [0, 5, 1]], [1, 1, 0], retired=[1])
+    >>> fit.home, fit.support_, fit.retired_
+    ([1.0, 0.0, -1.0], [0, 2], [1])
+    >>> fit.decision_function([[0.75, float("nan"), 0.25]])
+    [0.5]
+
 A kernel matrix is a list of n columns of n numbers each, or an object that holds its bytes: column by column, eight bytes for each
 double (array.array("d"), bytes, a float64 array of numpy, whose rows are taken as columns). It need not be symmetric. Labels are
 1 (positive) and 0 (negative). What is refused is told by a Refusal, which is a ValueError; what is no number at all, by a TypeError.
+Retired numbers that can't be right are told by a TypeError or a plain ValueError, before anything is refused.
 """
 import ctypes
 import numbers
@@ -32,6 +41,7 @@ import operator
 import os
 import struct
 from array import array
+from itertools import compress
 
 MOST_SAMPLES = 512
 MOST_PASSES = 10_000_000
@@ -41,8 +51,8 @@ _ANSWER = struct.Struct("<QQdQddQQQ")
 # The words of include/altuliscia.h.
 _SENTENCES = {
     1: "The number of samples is 0 or above 512: lend 1 to 512 samples.",
-    2: "A list has the wrong length: lend a matrix of 8*n*n bytes, n labels, 8n bytes for each list of doubles, at least 8n bytes "
-       "for each result list and at least 72 for the answer.",
+    2: "A list has the wrong length: lend a matrix of 8*n*n bytes, n labels, n retired bytes, 8n bytes for each list of doubles, an "
+       "empty tuning, at least 8n bytes for each result list and at least 72 for the answer.",
     3: "A kernel entry is NaN, infinite or above 2^1000 in magnitude: the index is column*n + row; scale the kernel down or mend "
        "that entry.",
     4: "A label is neither 0 nor 1: the index is its sample; write 1 for positive, 0 for negative.",
@@ -54,6 +64,8 @@ _SENTENCES = {
     9: "The parameter nu is NaN, not above 0 or above 1: give a number above 0 and not above 1.",
     10: "The budget is 0 or above 10000000: give 1 to 10000000 passes.",
     11: "Shrinking would have taken more samples out than were active: train with shrinking off, which avoids it.",
+    12: "A retired byte is neither 0 nor 1: write 1 for a retired sample, 0 for any other.",
+    13: "Shrinking is asked for where samples may be retired: train with shrinking off.",
 }
 
 
@@ -84,14 +96,17 @@ class Fit:
     home            each sample's own weight
     crate_reading   the list that the Rust crate linfa-svm answers, where weights may stand at other samples
     rho, r, obj     offset, scale of the nu rule (None without it), objective
+
+    retired_ has the numbers of the retired samples, in their order; their weight is 0.
     """
 
-    def __init__(self, home, crate_reading, rho, r, obj, iterations, reason):
+    def __init__(self, home, crate_reading, rho, r, obj, iterations, reason, retired=()):
         self.home = home
         self.crate_reading = crate_reading
         self.rho = rho
         self.r = r
         self.obj = obj
+        self.retired_ = list(retired)
         self.support_ = [k for k, weight in enumerate(home) if weight != 0.0]
         self.dual_coef_ = [[home[k] for k in self.support_]]
         self.intercept_ = [0.0 - rho]
@@ -100,7 +115,10 @@ class Fit:
 
     def decision_function(self, rows):
         """For each row, the kernel values of one caption with every training sample: the sum over samples, in their order, of weight
-        times value, less rho. From 0 on it is the positive class."""
+        times value, less rho. From 0 on it is the positive class. A value at a retired sample's place is passed over."""
+        stands = [True] * len(self.home)
+        for k in self.retired_:
+            stands[k] = False
         decisions = []
         for row in rows:
             if not hasattr(row, "__len__"):
@@ -108,28 +126,41 @@ class Fit:
             if len(row) != len(self.home):
                 raise ValueError(f"a row has {len(row)} kernel values for {len(self.home)} training samples")
             total = 0.0
-            for weight, value in zip(self.home, row):
+            terms = zip(self.home, row)
+            for weight, value in compress(terms, stands) if self.retired_ else terms:
                 total += weight * value
             decisions.append(total - self.rho)
         return decisions
 
 
-def fit_c(matrix, labels, cpos=1.0, cneg=1.0, *, eps=1e-7, shrinking=False, budget=MOST_PASSES):
+def fit_c(matrix, labels, cpos=1.0, cneg=1.0, *, eps=1e-7, shrinking=False, budget=MOST_PASSES, retired=None):
     """Trains two classes; `cpos` is the ceiling of positive samples and `cneg` that of negative ones.
 
     eps        the run ends where no pair breaks the conditions by this much
     shrinking  whether samples that seem settled are put aside; where it is on, a run may end in refusal 11
     budget     the most passes, 1 to 10000000
+    retired    the numbers of the samples to train without, counted from 0 as in support_, in any order. What is given for them is
+               judged as any other's and has no say in the answer; shrinking must be off (refusal 13)
     """
     marks = _labels(labels)
+    n = len(marks)
+    gone = _retired(retired, n)
     given = (_bits(cpos), _bits(cneg))
-    return _called("altuliscia_c", len(marks), (_matrix(matrix, len(marks)), marks), given, eps, shrinking, budget)
+    lent = (_matrix(matrix, n), marks)
+    if not gone:
+        return Fit(*_called("altuliscia_c", n, lent, given, eps, shrinking, budget))
+    # One pass of the C fit, for its refusals: there a bad cpos or cneg is told as such, not as a sample's ceiling.
+    _called("altuliscia_c", n, lent, given, eps, False, min(operator.index(budget), 1))
+    ceilings = [cpos if mark else cneg for mark in marks]
+    lent += (_doubles(ceilings), _doubles([0.0] * n), _doubles([-1.0] * n))
+    home, crate_reading, *rest = _without(gone, n, lent, False, eps, shrinking, budget)
+    return Fit(_signed(home, marks, gone), _signed(crate_reading, marks, gone), *rest, sorted(gone))
 
 
 def fit_nu(matrix, labels, nu=0.5, *, eps=1e-7, shrinking=False, budget=MOST_PASSES):
     """Trains two classes with nu, above 0 and not above 1. For the rest see fit_c."""
     marks = _labels(labels)
-    return _called("altuliscia_nu", len(marks), (_matrix(matrix, len(marks)), marks), (_bits(nu),), eps, shrinking, budget)
+    return Fit(*_called("altuliscia_nu", len(marks), (_matrix(matrix, len(marks)), marks), (_bits(nu),), eps, shrinking, budget))
 
 
 def fit_one_class(matrix, nu=0.5, *, n=None, eps=1e-7, shrinking=False, budget=MOST_PASSES):
@@ -138,14 +169,62 @@ def fit_one_class(matrix, nu=0.5, *, n=None, eps=1e-7, shrinking=False, budget=M
     n = _columns(matrix) if n is None else operator.index(n)
     if not 0 <= n < 1 << 64:
         raise Refusal(1, 0)
-    return _called("altuliscia_one_class", n, (_matrix(matrix, n),), (_bits(nu),), eps, shrinking, budget)
+    return Fit(*_called("altuliscia_one_class", n, (_matrix(matrix, n),), (_bits(nu),), eps, shrinking, budget))
 
 
-def fit_general(matrix, labels, ceilings, alphas, linear, *, nu_rule=False, eps=1e-7, shrinking=False, budget=MOST_PASSES):
-    """Trains with each sample's ceiling, start weight and linear term given. The weights are neither signed by label nor divided."""
+def fit_general(matrix, labels, ceilings, alphas, linear, *, nu_rule=False, eps=1e-7, shrinking=False, budget=MOST_PASSES,
+                retired=None):
+    """Trains with each sample's ceiling, start weight and linear term given. The weights are neither signed by label nor divided.
+    For the rest see fit_c."""
     marks = _labels(labels)
-    lent = (_matrix(matrix, len(marks)), marks, _doubles(ceilings), _doubles(alphas), _doubles(linear))
-    return _called("altuliscia_general", len(marks), lent, (ctypes.c_uint8(bool(nu_rule)),), eps, shrinking, budget)
+    n = len(marks)
+    gone = _retired(retired, n)
+    lent = (_matrix(matrix, n), marks, _doubles(ceilings), _doubles(alphas), _doubles(linear))
+    if not gone:
+        return Fit(*_called("altuliscia_general", n, lent, (_flag(nu_rule),), eps, shrinking, budget))
+    return Fit(*_without(gone, n, lent, nu_rule, eps, shrinking, budget), sorted(gone))
+
+
+def _without(gone, n, lent, nu_rule, eps, shrinking, budget):
+    """As the general fit, without the samples in `gone`. The tuning is empty."""
+    marks = bytes(k in gone for k in range(n))
+    return _called("altuliscia_retired", n, (*lent, marks), (_flag(nu_rule),), eps, shrinking, budget, (b"",))
+
+
+def _signed(weights, marks, gone):
+    """Negated where a sample is negative. The 0 of a retired one stays as it is."""
+    return [x if mark or k in gone else -x for k, (x, mark) in enumerate(zip(weights, marks))]
+
+
+def _retired(given, n):
+    """The retired samples' numbers, as a set. Bytes and bools are no numbers here but a mask."""
+    if given is None:
+        return set()
+    if isinstance(given, (bytes, bytearray)) or not hasattr(given, "__iter__"):
+        raise TypeError(f"a list of sample numbers is wanted as retired, not {given!r:.40}")
+    found = set()
+    for number in given:
+        k = _sample(number)
+        if not 0 <= k < n:
+            raise ValueError(f"sample {k} can't be retired: n is {n}, and samples are counted from 0")
+        if k in found:
+            raise ValueError(f"sample {k} is retired twice: sample numbers are wanted, each once, not a mask")
+        found.add(k)
+    return found
+
+
+def _sample(number):
+    # numpy's bool is bool_ in its older versions
+    if type(number).__name__ not in ("bool", "bool_"):
+        try:
+            return operator.index(number)
+        except TypeError:
+            pass
+    raise TypeError(f"sample numbers are wanted as retired, not {number!r:.40}")
+
+
+def _flag(on):
+    return ctypes.c_uint8(bool(on))
 
 
 def _bits(number):
@@ -217,28 +296,31 @@ def _matrix(matrix, n):
     return b"".join(_doubles(list(column)) for column in columns)
 
 
-def _called(name, n, lent, given, eps, shrinking, budget):
+def _slices(lists):
+    """Each list of bytes with its length, as arguments."""
+    return [part for data in lists for part in (ctypes.c_char_p(data), ctypes.c_size_t(len(data)))]
+
+
+def _called(name, n, lent, given, eps, shrinking, budget, late=()):
+    """Calls a C function, which takes the lists `late` after the budget, and returns what a Fit is made of."""
     # What doesn't fit 64 bits is lent as 0, which is refused as it would be.
     budget = operator.index(budget)
     budget = budget if 0 <= budget < 1 << 64 else 0
-    slices = []
-    for data in lent:
-        slices += [ctypes.c_char_p(data), ctypes.c_size_t(len(data))]
     # More samples than may be are refused without a look at any list.
     room = 8 * min(n, MOST_SAMPLES)
     written = [ctypes.create_string_buffer(size) for size in (room, room, _ANSWER.size)]
     results = []
     for buffer, size in zip(written, (room, room, _ANSWER.size)):
         results += [buffer, ctypes.c_size_t(size)]
-    options = (_bits(eps), ctypes.c_uint8(bool(shrinking)), ctypes.c_uint64(budget))
+    options = (_bits(eps), _flag(shrinking), ctypes.c_uint64(budget))
     function = getattr(_library(), name)
     function.restype = ctypes.c_uint64
-    refusal = function(ctypes.c_size_t(n), *slices, *given, *options, *results)
+    refusal = function(ctypes.c_size_t(n), *_slices(lent), *given, *options, *_slices(late), *results)
     _, index, rho, has_r, r, obj, iterations, reason, _ = _ANSWER.unpack(written[2].raw)
     if refusal:
         raise Refusal(refusal, index)
     home, crate_reading = (list(struct.unpack(f"<{n}d", buffer.raw)) for buffer in (written[1], written[0]))
-    return Fit(home, crate_reading, rho, r if has_r else None, obj, iterations, reason)
+    return home, crate_reading, rho, r if has_r else None, obj, iterations, reason
 
 
 _loaded = None

@@ -1,5 +1,5 @@
 #!/usr/bin/env python3
-"""scikit-learn's rows of 'One training by each' in docs/COMPARED.md, and our own: on captions, then on the drawn problem.
+"""scikit-learn's rows of 'One training by each' and 'A withdrawn sample' in docs/COMPARED.md, and our own: on captions, then on the drawn problem.
 
     cd host && cargo run -p captions -- libsvm ../captions/cs-sk.txt target/cs-sk
     python3 python/compared.py target/cs-sk
@@ -47,6 +47,25 @@ def on_captions(prefix):
     print(f"captions: shrinking changes a weight or the intercept of scikit-learn's by {abs(weights[1] - weights[0]).max():.2g}")
 
 
+def withdrawn(prefix, number):
+    """One caption withdrawn, by its number from 0 on: a weight of 0 there, retired here, and taken out by hand."""
+    labels, kernel = read(prefix + ".train")
+    held, values = read(prefix + ".held")
+    stand = [k for k in range(len(labels)) if k != number]
+    without = SVC(kernel="precomputed", C=10, tol=1e-7, shrinking=False).fit(kernel[numpy.ix_(stand, stand)], labels[stand])
+    weights = numpy.ones(len(labels))
+    weights[number] = 0
+    zero = SVC(kernel="precomputed", C=10, tol=1e-7, shrinking=False).fit(kernel, labels, sample_weight=weights)
+    fit = altuliscia.fit_c(kernel.T.tolist(), (labels == labels.max()).tolist(), 10, 10, retired=[number])
+    support = [stand[k] for k in without.support_]
+    right = [(zero.predict(values) == held).sum(), (without.predict(values[:, stand]) == held).sum()]
+    right.append(((numpy.array(fit.decision_function(values.tolist())) >= 0) == (held == labels.max())).sum())
+    print(f"caption {number} withdrawn, rightly sorted: scikit-learn with weight 0 {right[0]}, taken out {right[1]}, Altuliscia retired {right[2]}")
+    same = numpy.array_equal(zero.dual_coef_, without.dual_coef_)
+    print(f"weights of scikit-learn's those of the training without it: {same}; numbers beside them that are another caption's: "
+          f"{(zero.support_ != support).sum()} of {len(support)}, Altuliscia {len(set(fit.support_) ^ set(support))} of {len(fit.support_)}")
+
+
 def drawn():
     random = numpy.random.RandomState(1)
     points = random.randn(400, 5)
@@ -61,4 +80,5 @@ def drawn():
 if len(sys.argv) != 2:
     sys.exit(__doc__)
 on_captions(sys.argv[1])
+withdrawn(sys.argv[1], 19)
 drawn()

@@ -2,13 +2,15 @@
 import doctest
 import math
 import os
+import random
 import re
 import unittest
 from array import array
+from itertools import takewhile
 from unittest import mock
 
 import altuliscia
-from altuliscia import Refusal, fit_c, fit_general, fit_nu, fit_one_class
+from altuliscia import Fit, Refusal, fit_c, fit_general, fit_nu, fit_one_class
 
 ROOT = os.path.join(os.path.dirname(os.path.abspath(__file__)), "..", "..")
 IDENTITY = [[1, 0], [0, 1]]
@@ -26,6 +28,22 @@ def load_tests(loader, tests, pattern):
 
 def identity(n):
     return [[float(c == r) for r in range(n)] for c in range(n)]
+
+
+def shown(name):
+    """The bytes that docs/BYTES.md shows from the line of that name on, up to an empty line or another name."""
+    part = re.search(rf"^    {name:<14}(.*(?:\n {{18}}.*)*)", read("docs/BYTES.md"), re.MULTILINE).group(1)
+    return bytes(int(word, 16) for line in part.splitlines() for word in takewhile(lambda w: len(w) == 2, line.split()))
+
+
+def bits(numbers):
+    return array("d", numbers).tobytes()
+
+
+def told(fit):
+    """All that a fit answers, doubles bit for bit."""
+    numbers = [fit.rho, fit.obj] if fit.r is None else [fit.rho, fit.obj, fit.r]
+    return bits(fit.home), bits(fit.crate_reading), bits(numbers), fit.n_iter_, fit.fit_status_, fit.support_, fit.retired_
 
 
 class Worked(unittest.TestCase):
@@ -65,12 +83,14 @@ class Worked(unittest.TestCase):
         self.assertEqual(caught.exception.number, 1)
 
 
-class Refusals(unittest.TestCase):
+class Refused(unittest.TestCase):
     def refused(self, number, index, fit, *given, **options):
         with self.assertRaises(Refusal) as caught:
             fit(*given, **options)
         self.assertEqual((caught.exception.number, caught.exception.index), (number, index))
 
+
+class Refusals(Refused):
     def test_each(self):
         self.refused(1, 0, fit_c, [], [])
         self.refused(1, 0, fit_one_class, [], 0.5)
@@ -139,6 +159,7 @@ class Refusals(unittest.TestCase):
         self.assertEqual(found, altuliscia._SENTENCES)
         self.assertEqual(str(Refusal(5, 1)), f"refusal 5 at index 1: {found[5]}")
         self.assertEqual(str(Refusal(11, 0)), f"refusal 11: {found[11]}")
+        self.assertEqual(str(Refusal(13, 0)), f"refusal 13: {found[13]}")
 
     def test_labels(self):
         for label in (-1, 2, 256, 1 << 2000, 0.5, math.nan):
@@ -206,6 +227,237 @@ class Lists(unittest.TestCase):
             fit.decision_function([[1.0]])
 
 
+class Problem:
+    """A drawn problem: the matrix in columns, and the lists of the general fit."""
+
+    def __init__(self, draw, n):
+        self.matrix = [[draw.choice((-3.0, -0.5, 0.0, 1.0, 2.5)) for _ in range(n)] for _ in range(n)]
+        self.labels = [draw.randint(0, 1) for _ in range(n)]
+        self.ceilings = [draw.choice((0.5, 1.0, 3.0)) for _ in range(n)]
+        self.alphas = [draw.choice((0.0, 0.25, ceiling)) for ceiling in self.ceilings]
+        self.linear = [draw.choice((-1.0, 0.0, 2.0)) for _ in range(n)]
+
+    def lists(self):
+        return [self.labels, self.ceilings, self.alphas, self.linear]
+
+    def fits(self, **options):
+        """The fits that take retired samples, with the rules that they have."""
+        fits = [fit_c(self.matrix, self.labels, 2.0, 0.75, budget=50, **options)]
+        return fits + [fit_general(self.matrix, *self.lists(), nu_rule=nu, budget=50, **options) for nu in (False, True)]
+
+    def without(self, gone):
+        """The problem with those samples taken out."""
+        part = Problem.__new__(Problem)
+        left = [k for k in range(len(self.labels)) if k not in gone]
+        part.matrix = [[self.matrix[c][r] for r in left] for c in left]
+        part.labels, part.ceilings, part.alphas, part.linear = ([given[k] for k in left] for given in self.lists())
+        return part
+
+    def with_others(self, gone, draw):
+        """The problem with other values at those samples' places."""
+        n, other = len(self.labels), Problem(draw, len(self.labels))
+        other.matrix = [[2.0 ** 1000 if {c, r} & gone else self.matrix[c][r] for r in range(n)] for c in range(n)]
+        for mine, others in zip(self.lists(), other.lists()):
+            others[:] = [others[k] if k in gone else mine[k] for k in range(n)]
+        return other
+
+
+def put_back(fit, n, gone):
+    """The answer of a problem without those samples as that of all n."""
+    def spread(weights):
+        left = iter(weights)
+        return [0.0 if k in gone else next(left) for k in range(n)]
+    return Fit(spread(fit.home), spread(fit.crate_reading), fit.rho, fit.r, fit.obj, fit.n_iter_[0], fit.fit_status_, sorted(gone))
+
+
+class Retired(Refused):
+    def drawn(self):
+        """Problems, each with some samples that are retired; never all of them."""
+        draw = random.Random(5)
+        for _ in range(150):
+            n = draw.randint(2, 8)
+            yield draw, Problem(draw, n), set(draw.sample(range(n), draw.randint(1, n - 1)))
+
+    def test_nobody(self):
+        problem = Problem(random.Random(1), 6)
+        for shrinking in (False, True):
+            plain = [told(fit) for fit in problem.fits(shrinking=shrinking)]
+            for nobody in (None, [], (), set(), iter([]), array("q")):
+                self.assertEqual([told(fit) for fit in problem.fits(shrinking=shrinking, retired=nobody)], plain)
+        with mock.patch("altuliscia._called", wraps=altuliscia._called) as called:
+            problem.fits(retired=[])
+        names = [call.args[0] for call in called.call_args_list]
+        self.assertEqual(names, ["altuliscia_c", "altuliscia_general", "altuliscia_general"])
+        for fit in (*problem.fits(), fit_nu(IDENTITY, [1, 0]), fit_one_class(IDENTITY)):
+            self.assertEqual(fit.retired_, [])
+
+    def test_no_byte_set(self):
+        # What the library does by itself where nobody is retired.
+        for _, problem, _ in self.drawn():
+            n = len(problem.labels)
+            lent = (bits(sum(problem.matrix, [])), bytes(problem.labels), *map(bits, problem.lists()[1:]))
+            for nu in (False, True):
+                answer = altuliscia._without(set(), n, lent, nu, 1e-7, False, 50)
+                plain = fit_general(problem.matrix, *problem.lists(), nu_rule=nu, budget=50)
+                self.assertEqual(told(Fit(*answer)), told(plain))
+
+    def test_put_back(self):
+        for _, problem, gone in self.drawn():
+            fits = problem.fits(retired=gone)
+            parts = [put_back(fit, len(problem.labels), gone) for fit in problem.without(gone).fits()]
+            self.assertEqual([told(fit) for fit in fits], [told(fit) for fit in parts])
+
+    def test_no_say(self):
+        for draw, problem, gone in self.drawn():
+            others = problem.with_others(gone, draw).fits(retired=gone)
+            self.assertEqual([told(fit) for fit in problem.fits(retired=gone)], [told(fit) for fit in others])
+
+    def test_signs_of_zeros(self):
+        # Of one label nothing is trained: a negative sample has -0, a retired one +0.
+        fit = fit_c(identity(3), [0, 0, 0], retired=[1])
+        self.assertEqual((bits(fit.home), bits(fit.crate_reading)), (bits([-0.0, 0.0, -0.0]),) * 2)
+
+    def test_everybody(self):
+        for fit in (fit_c(IDENTITY, [1, 0], retired=[0, 1]), *Problem(random.Random(2), 3).fits(retired=[2, 0, 1])):
+            self.assertEqual((bits(fit.home), bits(fit.crate_reading)), (bytes(8 * len(fit.home)),) * 2)
+            self.assertTrue(math.isnan(fit.rho) and math.isnan(fit.decision_function([[1] * len(fit.home)])[0]))
+            self.assertEqual((fit.obj, fit.n_iter_, fit.fit_status_, fit.support_), (0.0, [0], 0, []))
+
+    def test_forms(self):
+        class Whole:
+            """A whole number as numpy has them."""
+            def __index__(self):
+                return 2
+
+        plain = told(fit_c(identity(3), [1, 0, 1], retired=[0, 2]))
+        for form in ([2, 0], (0, 2), {0, 2}, range(0, 3, 2), iter([2, 0]), array("B", [2, 0]), [Whole(), 0], {2: "", 0: ""}):
+            self.assertEqual(told(fit_c(identity(3), [1, 0, 1], retired=form)), plain)
+        self.assertEqual(plain[-1], [0, 2])
+
+    def test_decisions(self):
+        fit = fit_c([[1, 5, 0], [5, 5, 5], [0, 5, 1]], [1, 0, 0], retired=[1])
+        for value in (0.0, 7, math.inf, -math.inf, math.nan, 1e308, None):
+            self.assertEqual(fit.decision_function([[0.75, value, 0.25], [0.0, value, 1.0]]), [0.5, -1.0])
+        # A sample that isn't retired has its say, with weight 0 too.
+        idle = fit_c(identity(3), [1, 0, 1], retired=[0])
+        idle.home = [0.0, 0.0, 1.0]
+        self.assertTrue(math.isnan(idle.decision_function([[1, math.inf, 1]])[0]))
+        for row in ([0.75, 0.25], [1.0] * 4):
+            with self.assertRaises(ValueError):
+                fit.decision_function([row])
+
+    def test_the_page(self):
+        lists = [shown(name) for name in ("matrix of 3", "labels of 3", "ceilings", "alphas", "linear")]
+
+        def call(marks, shrinking):
+            given = (altuliscia._flag(False),)
+            return Fit(*altuliscia._called("altuliscia_retired", 3, (*lists, marks), given, 0.001, shrinking, 2, (b"",)))
+
+        fit = call(shown("retired"), False)
+        self.assertEqual((bits(fit.home), bits(fit.crate_reading)), (shown("both lists"),) * 2)
+        numbers = (0, 0, fit.rho, 0, 0.0, fit.obj, fit.n_iter_[0], fit.fit_status_, len(fit.support_))
+        self.assertEqual(altuliscia._ANSWER.pack(*numbers), shown("answer"))
+        self.assertEqual(told(fit_general(*lists, eps=0.001, budget=2, retired=[0]))[:-1], told(fit)[:-1])
+        self.refused(12, 0, call, b"\2\0\0", False)
+        self.refused(13, 0, call, shown("retired"), True)
+
+
+class RetiredRefused(Refused):
+    def refused_as_ever(self, number, index, *given, **options):
+        """By fit_c with and without a retired sample."""
+        for retired in (None, [1]):
+            self.refused(number, index, fit_c, *given, **options, retired=retired)
+
+    def test_as_fit_c_does(self):
+        spoilt = {"eps": -1.0, "budget": 0}
+        self.refused_as_ever(1, 0, identity(513), [1] * 513, 0.0, **spoilt)
+        self.refused_as_ever(2, 0, IDENTITY, [1, 0, 1], 0.0, **spoilt)
+        self.refused_as_ever(2, 0, [[1, 0, 0], [1]], [1, 0])
+        self.refused_as_ever(3, 2, [[1, 0], [math.inf, 1]], [1, 2], 0.0, **spoilt)
+        self.refused_as_ever(4, 1, IDENTITY, [1, 2], 0.0, **spoilt)
+        self.refused_as_ever(5, 0, IDENTITY, [1, 0], 0.0, math.nan, **spoilt)
+        # Nobody has that label, or only who is retired.
+        self.refused_as_ever(5, 0, IDENTITY, [0, 0], math.inf, 1.0, **spoilt)
+        self.refused_as_ever(5, 1, IDENTITY, [1, 1], 1.0, 2.0 ** 1001, **spoilt)
+        self.refused_as_ever(5, 1, IDENTITY, [1, 0], 1.0, -1.0)
+        self.refused_as_ever(8, 0, IDENTITY, [1, 0], **spoilt)
+        for budget in (0, -1, 10_000_001, 1 << 70):
+            self.refused_as_ever(10, 0, IDENTITY, [1, 0], budget=budget)
+
+    def test_general(self):
+        def refused(number, index, matrix, *lists, **options):
+            self.refused(number, index, fit_general, matrix, *lists, retired=[1], **options)
+
+        refused(2, 0, IDENTITY, [1, 0], [1, 1], [0], [0, 0])
+        refused(3, 3, [[1, 0], [0, math.nan]], [1, 0], [1, 1], [0, 0], [0, 0])
+        refused(4, 1, IDENTITY, [1, 7], [1, 1], [0, 0], [0, 0])
+        refused(5, 1, IDENTITY, [1, 0], [1, 0], [0, 0], [0, 0])
+        refused(6, 1, IDENTITY, [1, 0], [1, 1], [0, 2], [0, 0])
+        refused(7, 1, IDENTITY, [1, 0], [1, 1], [0, 0], [0, math.inf])
+
+    def test_shrinking(self):
+        lists = ([1, 0], [1, 1], [0, 0], [-1, -1])
+        for fit, given in ((fit_c, lists[:1]), (fit_general, lists)):
+            self.refused(13, 0, fit, IDENTITY, *given, shrinking=True, retired=[1])
+            self.refused(10, 0, fit, IDENTITY, *given, shrinking=True, budget=0, retired=[1])
+            self.refused(8, 0, fit, IDENTITY, *given, shrinking=True, eps=math.nan, retired=[1])
+
+    def test_bytes_and_tuning(self):
+        # What these functions never lend.
+        def call(marks, late, shrinking=False):
+            lists = (bits([1, 0, 0, 1]), b"\1\0", bits([1, 1]), bits([0, 0]), bits([-1, -1]), marks)
+            given = (altuliscia._flag(False),)
+            return altuliscia._called("altuliscia_retired", 2, lists, given, 1e-7, shrinking, 9, late)
+
+        self.assertEqual(call(b"\0\0", (b"",))[0], [1.0, 1.0])
+        for marks, late in ((b"\0", b""), (b"\0" * 3, b""), (b"\0\0", b"\0"), (b"\0\0", bytes(8)), (b"", b"")):
+            self.refused(2, 0, call, marks, (late,))
+        for marks in (b"\2\0", b"\1\2", b"\xff\1"):
+            self.refused(12, 0, call, marks, (b"",), True)
+        self.refused(13, 0, call, b"\0\0", (b"",), True)
+
+    def bad(self, kind, text, retired, labels=(1, 0)):
+        for fit, lists in ((fit_c, ()), (fit_general, ([1, 1], [0, 0], [-1, -1]))):
+            with self.assertRaises(kind) as caught:
+                fit(IDENTITY, labels, *lists, retired=retired() if callable(retired) else retired)
+            self.assertEqual((type(caught.exception), str(caught.exception)), (kind, text))
+
+    def test_no_numbers(self):
+        class bool_:
+            """As numpy's: a number by its looks."""
+            def __index__(self):
+                return 1
+
+            def __repr__(self):
+                return "True_"
+
+        for given in (True, False, 1, 1.0, b"\0\1", bytearray(2), object):
+            self.bad(TypeError, f"a list of sample numbers is wanted as retired, not {given!r:.40}", lambda: given)
+        for given in (True, False, bool_(), "1", 1.0, math.nan, None, [1]):
+            self.bad(TypeError, f"sample numbers are wanted as retired, not {given!r}", [1, given])
+        self.bad(TypeError, "sample numbers are wanted as retired, not False", [False, True])
+        self.bad(TypeError, "sample numbers are wanted as retired, not '1'", "1")
+
+    def test_wrong_numbers(self):
+        for number in (2, -1, 512, 1 << 64):
+            self.bad(ValueError, f"sample {number} can't be retired: n is 2, and samples are counted from 0", [0, number])
+        self.bad(ValueError, "sample 1 is retired twice: sample numbers are wanted, each once, not a mask", [1, 0, 1])
+
+    def test_before_the_library(self):
+        # What can't be right is told first, whatever else would be refused.
+        self.bad(ValueError, "sample 0 can't be retired: n is 0, and samples are counted from 0", [0], labels=())
+        self.bad(ValueError, "sample 600 can't be retired: n is 513, and samples are counted from 0", [600], labels=[1] * 513)
+        self.bad(ValueError, "sample 1 can't be retired: n is 1, and samples are counted from 0", [1], labels=[2])
+        for given in ({"budget": 1.5}, {"eps": "x"}, {"cneg": None}):
+            with self.assertRaises(TypeError):
+                fit_c([[math.nan]], [1], retired=[0], **given)
+
+    def test_who_takes_it(self):
+        for fit, given in ((fit_nu, (IDENTITY, [1, 0])), (fit_one_class, (IDENTITY,))):
+            with self.assertRaises(TypeError):
+                fit(*given, retired=[1])
+
+
 class Captions(unittest.TestCase):
     """The captions that ship with the repository, sorted as `./run` says."""
 
@@ -236,6 +488,16 @@ class Captions(unittest.TestCase):
                     fit.home = weights
                     decisions = fit.decision_function(values)
                     self.assertEqual(sum((d >= 0) == (t == 1) for d, t in zip(decisions, truth)), int(right))
+
+    def test_retired(self):
+        matrix, labels, values, _ = self.figures("cs-sk")
+        gone = {0, 19, 40, 63}
+        left = [k for k in range(len(labels)) if k not in gone]
+        part = fit_c([[matrix[c][r] for r in left] for c in left], [labels[k] for k in left], 10.0, 10.0, eps=1e-3)
+        fit = fit_c(matrix, labels, 10.0, 10.0, eps=1e-3, retired=[63, 19, 0, 40])
+        self.assertEqual(told(fit), told(put_back(part, len(labels), gone)))
+        spoilt = [[math.inf if k in gone else value for k, value in enumerate(row)] for row in values]
+        self.assertEqual(fit.decision_function(spoilt), part.decision_function([[row[k] for k in left] for row in values]))
 
     def test_refused_as_told(self):
         matrix, labels, _, _ = self.figures("da-sv")

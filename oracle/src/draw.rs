@@ -12,6 +12,10 @@ use crate::problem::{Entry, Problem, LIMIT, LIMIT_BITS, MOST_PASSES, MOST_SAMPLE
 use crate::random::Random;
 use crate::run::solve;
 
+mod retired;
+
+pub use retired::{draw_retired, redraw_retired};
+
 const TINY: f64 = 5e-324;
 /// The next f64 above 2^1000.
 pub const PAST_LIMIT: f64 = LIMIT * PAST_ONE;
@@ -33,24 +37,34 @@ pub const NANS: [u64; 7] = [
 /// The problem of a seed.
 pub fn draw(seed: u64) -> Problem {
     let mut g = Random::new(seed);
-    let mut p = match g.below(24) {
-        0..=6 => plain(&mut g),
-        7..=15 => restless(&mut g),
-        16..=17 => tails(&mut g),
-        18..=20 => brinks(&mut g),
-        _ => wild(&mut g),
-    };
-    budget(&mut g, &mut p);
-    spare_room(&mut g, &mut p);
-    if g.one_in(5) {
-        spoil(&mut g, &mut p);
-    }
+    let mut p = family(&mut g);
+    finish(&mut g, &mut p);
     p
+}
+
+/// A sound problem of one of the families, as yet with a budget of 1.
+fn family(g: &mut Random) -> Problem {
+    match g.below(24) {
+        0..=6 => plain(g),
+        7..=15 => restless(g),
+        16..=17 => tails(g),
+        18..=20 => brinks(g),
+        _ => wild(g),
+    }
+}
+
+fn finish(g: &mut Random, p: &mut Problem) {
+    budget(g, p);
+    spare_room(g, p);
+    if g.one_in(5) {
+        spoil(g, p);
+    }
 }
 
 /// A problem of the given size over a matrix of small whole numbers, with
 /// labels that a line nearly tells apart. Its lists are as long as they must
-/// be, and its budget is 5000.
+/// be, and its budget is 5000. Of the retired entry about one sample in five
+/// is retired.
 pub fn draw_big(seed: u64, n: usize, entry: Entry, shrinking: bool) -> Problem {
     let mut g = Random::new(seed);
     let wide = 3 + g.place(3);
@@ -72,7 +86,7 @@ pub fn draw_big(seed: u64, n: usize, entry: Entry, shrinking: bool) -> Problem {
             .collect();
     }
     match entry {
-        Entry::General => {
+        Entry::General | Entry::Retired => {
             p.nu_rule = g.coin();
             p.ceilings = (0..n).map(|_| g.pick(&[0.25, 0.5, 1.0])).collect();
             p.alphas = p.ceilings.iter().map(|c| c * g.unit()).collect();
@@ -84,6 +98,10 @@ pub fn draw_big(seed: u64, n: usize, entry: Entry, shrinking: bool) -> Problem {
         }
         Entry::Nu | Entry::OneClass => p.nu = 0.1 + 0.3 * g.unit(),
     }
+    if entry == Entry::Retired {
+        p.retired = (0..n).map(|_| u8::from(g.one_in(5))).collect();
+        retired::redraw(&mut g, &mut p, Kind::Whole(100));
+    }
     p
 }
 
@@ -93,7 +111,7 @@ fn plain(g: &mut Random) -> Problem {
     let n = size(g);
     let kind = Kind::any(g);
     let matrix = matrix(g, n, kind);
-    let entry = g.pick(&Entry::ALL);
+    let entry = g.pick(&Entry::DRAWN);
     let mut p = Problem::over(entry, n, &matrix);
     p.shrinking = !g.one_in(4);
     p.eps = eps(g);
@@ -369,7 +387,7 @@ fn fill(g: &mut Random, p: &mut Problem, n: usize, calm: bool) {
         p.labels = labels(g, n, calm);
     }
     match p.entry {
-        Entry::General => {
+        Entry::General | Entry::Retired => {
             p.nu_rule = g.one_in(3);
             p.ceilings = ceilings(g, &p.labels, calm);
             p.alphas = alphas(g, &p.ceilings);
@@ -751,7 +769,7 @@ fn spare_room(g: &mut Random, p: &mut Problem) {
 
 /// Spoils a sound problem in one to three ways.
 fn spoil(g: &mut Random, p: &mut Problem) {
-    let numbers: Vec<u64> = (1..=10).filter(|k| p.entry.can_refuse(*k)).collect();
+    let numbers: Vec<u64> = p.entry.judged().collect();
     let ways = match g.below(8) {
         0..=4 => 1,
         5..=6 => 2,
@@ -776,6 +794,16 @@ fn bad(g: &mut Random, others: &[f64]) -> f64 {
         nan(g)
     } else {
         g.pick(others)
+    }
+}
+
+/// Neither 0 nor 1.
+fn bad_byte(g: &mut Random) -> u8 {
+    match g.below(4) {
+        0 => 2,
+        1 => 255,
+        2 => 128,
+        _ => 2 + g.below(254) as u8,
     }
 }
 
@@ -827,6 +855,7 @@ fn spoil_by(g: &mut Random, p: &mut Problem, number: u64) {
                 p.ceilings.clear();
                 p.alphas.clear();
                 p.linear.clear();
+                p.retired.clear();
             }
         }
         2 => spoil_length(g, p),
@@ -845,12 +874,7 @@ fn spoil_by(g: &mut Random, p: &mut Problem, number: u64) {
                 p.set_pattern(k, x.to_bits());
             }
         }
-        4 => bad_places(g, &mut p.labels, |g, _| match g.below(4) {
-            0 => 2,
-            1 => 255,
-            2 => 128,
-            _ => 2 + g.below(254) as u8,
-        }),
+        4 => bad_places(g, &mut p.labels, |g, _| bad_byte(g)),
         5 if p.entry == Entry::C => {
             if g.coin() {
                 p.cpos = bad(g, &BAD_CEILINGS);
@@ -883,7 +907,9 @@ fn spoil_by(g: &mut Random, p: &mut Problem, number: u64) {
             let others = [0.0, -0.0, -TINY, -0.5, PAST_ONE, 2.0, f64::INFINITY];
             p.nu = bad(g, &others);
         }
-        _ => p.budget = g.pick(&[0, 0, MOST_PASSES + 1, 1 << 32, 1 << 63, u64::MAX]),
+        10 => p.budget = g.pick(&[0, 0, MOST_PASSES + 1, 1 << 32, 1 << 63, u64::MAX]),
+        12 => bad_places(g, &mut p.retired, |g, _| bad_byte(g)),
+        _ => p.shrinking = true,
     }
 }
 
@@ -891,7 +917,8 @@ fn spoil_by(g: &mut Random, p: &mut Problem, number: u64) {
 fn spoil_length(g: &mut Random, p: &mut Problem) {
     let n = p.n;
     let shorter = g.coin();
-    match g.below(12) {
+    let ways = if p.entry == Entry::Retired { 13 } else { 12 };
+    match g.below(ways) {
         0 => {
             let bytes = g.pick(&[1, 8]).min(p.matrix.len());
             if shorter {
@@ -902,14 +929,15 @@ fn spoil_length(g: &mut Random, p: &mut Problem) {
         }
         1 => p.matrix.clear(),
         2 if p.entry.has_labels() => off_by_one(&mut p.labels, shorter, 1),
-        3 if p.entry == Entry::General => off_by_one(&mut p.ceilings, shorter, 1.0),
-        4 if p.entry == Entry::General => off_by_one(&mut p.alphas, shorter, 0.0),
-        5 if p.entry == Entry::General => off_by_one(&mut p.linear, shorter, 0.0),
+        3 if p.entry.has_lists() => off_by_one(&mut p.ceilings, shorter, 1.0),
+        4 if p.entry.has_lists() => off_by_one(&mut p.alphas, shorter, 0.0),
+        5 if p.entry.has_lists() => off_by_one(&mut p.linear, shorter, 0.0),
         6 => p.crate_len = if shorter { n - 1 } else { 0 },
         7 => p.home_len = if shorter { n - 1 } else { 0 },
         8 => p.scratch_floats = if shorter { 7 * n - 1 } else { n },
         9 => p.scratch_numbers = if shorter { 2 * n - 1 } else { n },
         10 => p.scratch_bytes = if shorter { n - 1 } else { 0 },
+        12 => off_by_one(&mut p.retired, shorter, 0),
         _ => p.n = if shorter && n > 1 { n - 1 } else { n + 1 },
     }
 }

@@ -9,14 +9,15 @@ pub struct Refusal {
     pub index: u64,
 }
 
-/// The refusal of the lowest number that applies, if one of 1 to 10 does.
+/// The refusal of the lowest number that applies, if one but 11 does.
 pub fn judge(p: &Problem) -> Option<Refusal> {
-    (1..=10).find_map(|number| refused(p, number))
+    p.entry.judged().find_map(|number| refused(p, number))
 }
 
-/// Every number of 1 to 10 that applies by itself, lowest first.
+/// Every number but 11 that applies by itself, lowest first.
 pub fn faults(p: &Problem) -> Vec<u64> {
-    (1..=10)
+    p.entry
+        .judged()
         .filter(|number| refused(p, *number).is_some())
         .collect()
 }
@@ -26,14 +27,11 @@ pub fn faults(p: &Problem) -> Vec<u64> {
 /// Lists are scanned as they are lent, so each number can be asked for alone
 /// even where lengths are wrong.
 fn refused(p: &Problem, number: u64) -> Option<Refusal> {
-    if !p.entry.can_refuse(number) {
-        return None;
-    }
     let index = match number {
         1 => whole(p.n == 0 || p.n > MOST_SAMPLES),
         2 => whole(!sized(p)),
         3 => first(p.patterns(), |x| magnitude(x) > LIMIT_BITS),
-        4 => first(p.labels.iter(), |y| **y > 1),
+        4 => first(p.labels.iter(), |y| bad_byte(**y)),
         5 => match p.entry {
             Entry::C => first([p.cpos, p.cneg].iter(), |c| bad_ceiling(**c)),
             _ => first(p.ceilings.iter(), |c| bad_ceiling(**c)),
@@ -45,6 +43,8 @@ fn refused(p: &Problem, number: u64) -> Option<Refusal> {
         8 => whole(!p.eps.is_finite() || p.eps.is_sign_negative()),
         9 => whole(p.nu.is_nan() || p.nu <= 0.0 || p.nu > 1.0),
         10 => whole(p.budget == 0 || p.budget > MOST_PASSES),
+        12 => whole(p.retired.iter().any(|b| bad_byte(*b))),
+        13 => whole(p.shrinking),
         _ => None,
     };
     index.map(|index| Refusal { number, index })
@@ -66,6 +66,10 @@ fn magnitude(pattern: &u64) -> u64 {
     pattern & !(1 << 63)
 }
 
+fn bad_byte(b: u8) -> bool {
+    b > 1
+}
+
 fn bad_ceiling(c: f64) -> bool {
     c.is_nan() || c <= 0.0 || c > LIMIT
 }
@@ -75,16 +79,10 @@ fn bad_ceiling(c: f64) -> bool {
 fn sized(p: &Problem) -> bool {
     let n = u128::from(p.n);
     let is_n = |len: usize| len as u128 == n;
-    let inputs = match p.entry {
-        Entry::General => {
-            is_n(p.labels.len())
-                && is_n(p.ceilings.len())
-                && is_n(p.alphas.len())
-                && is_n(p.linear.len())
-        }
-        Entry::C | Entry::Nu => is_n(p.labels.len()),
-        Entry::OneClass => true,
-    };
+    let floats = [&p.ceilings, &p.alphas, &p.linear];
+    let inputs = (!p.entry.has_labels() || is_n(p.labels.len()))
+        && (!p.entry.has_lists() || floats.iter().all(|l| is_n(l.len())))
+        && (p.entry != Entry::Retired || is_n(p.retired.len()));
     // 8·n·n is below 2^128 only for n below 2^62; no list is longer than that
     let square = n.checked_mul(n).and_then(|q| q.checked_mul(8));
     let room = |len: u64, each: u128| u128::from(len) >= each * n;

@@ -2,8 +2,9 @@
 //! with every input refused that the rule refuses.
 //!
 //! - [`problem`]: what a caller lends and asks.
-//! - [`judge`]: refusals 1 to 10, before anything runs.
+//! - [`judge`]: every refusal but 11, before anything runs.
 //! - [`run`]: the run itself, refusal 11, both readings.
+//! - [`retired`]: retired samples, taken out before a run and put back.
 //! - [`draw`]: problems from a 64-bit seed.
 //! - [`marks`]: what a drawn or recorded set reaches.
 //! - [`record`]: the file of recorded answers.
@@ -16,11 +17,12 @@ pub mod marks;
 pub mod problem;
 pub mod random;
 pub mod record;
+pub mod retired;
 pub mod run;
 pub mod show;
 pub mod worked;
 
-pub use draw::draw;
+pub use draw::{draw, draw_retired};
 pub use judge::{judge, Refusal};
 pub use problem::{Entry, Problem};
 pub use run::{solve, Accepted, Answer, Outcome, Reason};

@@ -1,7 +1,7 @@
 //! The oracle's command line.
 
 use oracle::marks::Tally;
-use oracle::{draw, record, show, solve, worked, Outcome};
+use oracle::{draw, draw_retired, record, show, solve, worked, Outcome, Problem};
 use std::process::ExitCode;
 use std::time::Instant;
 
@@ -13,6 +13,8 @@ const HELP: &str = "oracle COMMAND
   draw SEED COUNT   solve COUNT problems drawn from SEED, SEED + 1, ..
                     and count what they reach
   show SEED         one drawn problem, its answer and its passes
+  draw retired SEED COUNT, show retired SEED
+                    the same of problems with retired samples
 ";
 
 fn main() -> ExitCode {
@@ -22,8 +24,10 @@ fn main() -> ExitCode {
         ["worked"] => run_worked(),
         ["record", path] => run_record(path),
         ["check", path] => run_check(path),
-        ["draw", seed, count] => number(seed).and_then(|s| run_draw(s, number(count)?)),
-        ["show", seed] => number(seed).map(run_show),
+        ["draw", seed, count] => run_draw(draw, seed, count),
+        ["draw", "retired", seed, count] => run_draw(draw_retired, seed, count),
+        ["show", seed] => run_show(draw, seed),
+        ["show", "retired", seed] => run_show(draw_retired, seed),
         _ => Err(HELP.to_string()),
     };
     match result {
@@ -76,7 +80,8 @@ fn run_check(path: &str) -> Result<(), String> {
     Ok(())
 }
 
-fn run_draw(seed: u64, count: u64) -> Result<(), String> {
+fn run_draw(draw: fn(u64) -> Problem, seed: &str, count: &str) -> Result<(), String> {
+    let (seed, count) = (number(seed)?, number(count)?);
     let start = Instant::now();
     let mut tally = Tally::default();
     let mut faults = 0;
@@ -99,11 +104,12 @@ fn run_draw(seed: u64, count: u64) -> Result<(), String> {
     }
 }
 
-fn run_show(seed: u64) {
-    let p = draw(seed);
+fn run_show(draw: fn(u64) -> Problem, seed: &str) -> Result<(), String> {
+    let p = draw(number(seed)?);
     print!("{}", show::problem(&p));
     println!();
     print!("{}", show::answer(&solve(&p, true)));
+    Ok(())
 }
 
 fn tell(tally: &Tally) {

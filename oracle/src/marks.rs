@@ -2,14 +2,20 @@
 //! counts them.
 
 use crate::judge::faults;
-use crate::problem::{Entry, Problem, MOST_PASSES};
+use crate::problem::{Entry, Problem, LAST_REFUSAL, LIMIT, MOST_PASSES};
 use crate::run::{canonical, Accepted, Answer, Outcome, Reason};
+
+mod retired;
+
+pub use retired::RETIRED;
 
 /// How much a tally must have of a mark.
 #[derive(Clone, Copy, Debug, PartialEq, Eq)]
 pub enum Owed {
     /// A set that never reaches it isn't worth much.
     Some,
+    /// The same, of a set with problems of the retired entry.
+    Retired,
     /// It has never been seen, or must never be.
     None,
 }
@@ -17,26 +23,39 @@ pub enum Owed {
 /// Every mark by name, in a fixed order.
 pub fn names() -> Vec<(String, Owed)> {
     let mut all = Vec::new();
-    let mut some = |name: String| all.push((name, Owed::Some));
+    let owed_by = |entry: Entry| match entry {
+        Entry::Retired => Owed::Retired,
+        _ => Owed::Some,
+    };
     for entry in Entry::ALL {
-        some(format!("accepted, {}", entry.name()));
+        all.push((format!("accepted, {}", entry.name()), owed_by(entry)));
     }
-    for number in 1..=11 {
-        for entry in Entry::ALL {
-            if entry.can_refuse(number) {
-                some(format!("refusal {number}, {}", entry.name()));
-            }
-        }
+    for (number, entry) in refusals() {
+        let name = format!("refusal {number}, {}", entry.name());
+        all.push((name, owed_by(entry)));
     }
-    some("refused for several reasons at once".into());
-    some("a refusal at an index that isn't 0".into());
+    let several = "refused for several reasons at once";
+    let index = "a refusal at an index that isn't 0";
+    all.extend([several, index].map(|name| (name.into(), Owed::Some)));
     for (name, _) in ACCEPTED {
-        some(format!("accepted: {name}"));
+        all.push((format!("accepted: {name}"), Owed::Some));
+    }
+    for (name, _) in RETIRED {
+        all.push((format!("retired: {name}"), Owed::Retired));
     }
     all.push(("accepted: weight NaN or infinite".into(), Owed::None));
     all.push(("second look not optimal".into(), Owed::None));
     all.push(("fault of the oracle".into(), Owed::None));
     all
+}
+
+/// Every refusal of every entry.
+fn refusals() -> Vec<(u64, Entry)> {
+    let each = |number| Entry::ALL.into_iter().map(move |entry| (number, entry));
+    (1..=LAST_REFUSAL)
+        .flat_map(each)
+        .filter(|(number, entry)| entry.can_refuse(*number))
+        .collect()
 }
 
 /// The marks of one answer, in the order of [`names`].
@@ -47,17 +66,17 @@ pub fn marks(p: &Problem, answer: &Answer) -> Vec<bool> {
     for entry in Entry::ALL {
         all.push(accepted.is_some() && p.entry == entry);
     }
-    for number in 1..=11 {
-        for entry in Entry::ALL {
-            if entry.can_refuse(number) {
-                all.push(p.entry == entry && refusal.map_or(false, |r| r.number == number));
-            }
-        }
+    for (number, entry) in refusals() {
+        all.push(p.entry == entry && refusal.map_or(false, |r| r.number == number));
     }
-    all.push(refusal.is_some() && faults(p).len() > 1);
-    all.push(refusal.map_or(false, |r| r.index != 0));
+    let drawn = p.entry != Entry::Retired;
+    all.push(drawn && refusal.is_some() && faults(p).len() > 1);
+    all.push(drawn && refusal.map_or(false, |r| r.index != 0));
     for (_, test) in ACCEPTED {
-        all.push(accepted.map_or(false, |a| test(p, answer, a)));
+        all.push(drawn && accepted.map_or(false, |a| test(p, answer, a)));
+    }
+    for (_, test) in RETIRED {
+        all.push(!drawn && test(p, answer));
     }
     all.push(accepted.map_or(false, |a| a.weights.iter().any(|w| !w.is_finite())));
     all.push(answer.events.second_not_optimal > 0);
@@ -85,7 +104,7 @@ const ACCEPTED: &[(&str, Test)] = &[
     }),
     ("matrix not symmetric", |p, _, _| !is_symmetric(p)),
     ("entry of magnitude 2^1000", |p, _, _| {
-        p.entries().iter().any(|x| x.abs() == crate::problem::LIMIT)
+        p.entries().iter().any(|x| x.abs() == LIMIT)
     }),
     ("eps 0", |p, _, _| p.eps == 0.0),
     ("all labels equal", |p, _, _| {
@@ -189,7 +208,7 @@ fn is_symmetric(p: &Problem) -> bool {
 
 fn ceilings_differ(p: &Problem) -> bool {
     match p.entry {
-        Entry::General => p.ceilings.iter().any(|c| *c != p.ceilings[0]),
+        Entry::General | Entry::Retired => p.ceilings.iter().any(|c| *c != p.ceilings[0]),
         Entry::C => p.cpos != p.cneg,
         _ => false,
     }
@@ -198,7 +217,7 @@ fn ceilings_differ(p: &Problem) -> bool {
 /// The ceiling that the place has by the samples' first order.
 fn ceiling_of_place(p: &Problem, k: usize) -> f64 {
     match p.entry {
-        Entry::General => p.ceilings[k],
+        Entry::General | Entry::Retired => p.ceilings[k],
         Entry::C if p.labels[k] == 1 => p.cpos,
         Entry::C => p.cneg,
         Entry::Nu | Entry::OneClass => 1.0,
@@ -229,6 +248,8 @@ fn is_negative_zero(x: f64) -> bool {
 #[derive(Clone, Debug, Default)]
 pub struct Tally {
     pub total: u64,
+    /// Of the retired entry.
+    pub retired: u64,
     pub accepted: u64,
     pub passes: u64,
     pub counts: Vec<u64>,
@@ -242,6 +263,7 @@ impl Tally {
             *count += u64::from(*mark);
         }
         self.total += 1;
+        self.retired += u64::from(p.entry == Entry::Retired);
         if let Some(a) = answer.accepted() {
             self.accepted += 1;
             self.passes += a.iterations;
@@ -256,17 +278,30 @@ impl Tally {
         self.counts.get(k).copied().unwrap_or(0)
     }
 
+    /// Every mark that these problems can carry, with what is owed of it and
+    /// its count.
+    fn carried(&self) -> Vec<(String, Owed, u64)> {
+        let counts = self.counts.iter().copied().chain(std::iter::repeat(0));
+        names()
+            .into_iter()
+            .zip(counts)
+            .map(|((name, owed), count)| (name, owed, count))
+            .filter(|(_, owed, _)| match owed {
+                Owed::Some => self.retired == 0 || self.total > self.retired,
+                Owed::Retired => self.retired > 0,
+                Owed::None => true,
+            })
+            .collect()
+    }
+
     /// The marks that should be there and aren't, and those that are there and
     /// shouldn't.
     pub fn wrong(&self) -> Vec<String> {
-        let mut wrong = Vec::new();
-        for (k, (name, owed)) in names().into_iter().enumerate() {
-            let count = self.counts.get(k).copied().unwrap_or(0);
-            if (count == 0) == (owed == Owed::Some) {
-                wrong.push(name);
-            }
-        }
-        wrong
+        self.carried()
+            .into_iter()
+            .filter(|(_, owed, count)| (*count > 0) == (*owed == Owed::None))
+            .map(|(name, _, _)| name)
+            .collect()
     }
 
     /// One line a mark.
@@ -277,8 +312,7 @@ impl Tally {
             format!("{:>9}  refused", self.total - self.accepted),
             format!("{:>9}  passes in all", self.passes),
         ];
-        for (k, (name, _)) in names().into_iter().enumerate() {
-            let count = self.counts.get(k).copied().unwrap_or(0);
+        for (name, _, count) in self.carried() {
             lines.push(format!("{count:>9}  {name}"));
         }
         lines

@@ -10,17 +10,31 @@ pub const MOST_SAMPLES: u64 = 512;
 /// The largest budget that is accepted.
 pub const MOST_PASSES: u64 = 10_000_000;
 
-/// Which of the four calls is made.
+/// The largest number of a refusal.
+pub const LAST_REFUSAL: u64 = 13;
+
+/// Which of the five calls is made.
 #[derive(Clone, Copy, Debug, PartialEq, Eq)]
 pub enum Entry {
     General,
     C,
     Nu,
     OneClass,
+    Retired,
 }
 
 impl Entry {
-    pub const ALL: [Entry; 4] = [Entry::General, Entry::C, Entry::Nu, Entry::OneClass];
+    pub const ALL: [Entry; 5] = [
+        Entry::General,
+        Entry::C,
+        Entry::Nu,
+        Entry::OneClass,
+        Entry::Retired,
+    ];
+
+    /// Those that `draw` draws. The retired entry has a draw of its own, so
+    /// that a seed means what it always did.
+    pub const DRAWN: [Entry; 4] = [Entry::General, Entry::C, Entry::Nu, Entry::OneClass];
 
     /// The entry's number in a record.
     pub fn number(self) -> u64 {
@@ -37,6 +51,7 @@ impl Entry {
             Entry::C => "C",
             Entry::Nu => "nu",
             Entry::OneClass => "one-class",
+            Entry::Retired => "retired",
         }
     }
 
@@ -44,16 +59,28 @@ impl Entry {
         self != Entry::OneClass
     }
 
+    /// Whether ceilings, start alphas and linear terms are lent to it.
+    pub fn has_lists(self) -> bool {
+        matches!(self, Entry::General | Entry::Retired)
+    }
+
     /// Whether this entry can answer with the refusal of that number.
     pub fn can_refuse(self, number: u64) -> bool {
         match number {
-            1..=3 | 8 | 10 | 11 => true,
+            1..=3 | 8 | 10 => true,
             4 => self.has_labels(),
-            5 => matches!(self, Entry::General | Entry::C),
-            6 | 7 => self == Entry::General,
+            5 => self.has_lists() || self == Entry::C,
+            6 | 7 => self.has_lists(),
             9 => matches!(self, Entry::Nu | Entry::OneClass),
+            11 => self != Entry::Retired,
+            12 | 13 => self == Entry::Retired,
             _ => false,
         }
+    }
+
+    /// The refusals that it can give before anything runs, lowest first.
+    pub fn judged(self) -> impl Iterator<Item = u64> {
+        (1..=LAST_REFUSAL).filter(move |k| *k != 11 && self.can_refuse(*k))
     }
 }
 
@@ -71,11 +98,13 @@ pub struct Problem {
     pub matrix: Vec<u8>,
     /// 1 positive, 0 negative. All entries but one-class.
     pub labels: Vec<u8>,
-    /// General entry alone, as are the next three.
+    /// General and retired entries alone, as are the next three.
     pub ceilings: Vec<f64>,
     pub alphas: Vec<f64>,
     pub linear: Vec<f64>,
     pub nu_rule: bool,
+    /// 1 retired, 0 not. Retired entry.
+    pub retired: Vec<u8>,
     /// Ceiling of the positive samples. C entry.
     pub cpos: f64,
     /// Ceiling of the negative samples. C entry.
@@ -106,6 +135,7 @@ impl Problem {
             alphas: Vec::new(),
             linear: Vec::new(),
             nu_rule: false,
+            retired: Vec::new(),
             cpos: 0.0,
             cneg: 0.0,
             nu: 0.0,

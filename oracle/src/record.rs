@@ -1,6 +1,6 @@
 //! The file of recorded answers. Its layout is told in `recorded/README.md`.
 
-use crate::draw::{draw, draw_big};
+use crate::draw::{draw, draw_big, draw_retired};
 use crate::judge::judge;
 use crate::marks::{names, Owed, Tally};
 use crate::problem::{Entry, Problem};
@@ -153,6 +153,10 @@ pub fn record(p: &Problem, told: &Told) -> Vec<u8> {
             put(&mut out, x.to_bits());
         }
     }
+    if p.entry == Entry::Retired {
+        put(&mut out, p.retired.len() as u64);
+        put_bytes(&mut out, &p.retired);
+    }
     for word in [
         told.refusal,
         told.index,
@@ -269,6 +273,10 @@ fn read_one(r: &mut Reader) -> Result<Record, String> {
     problem.ceilings = r.floats(ceilings)?;
     problem.alphas = r.floats(alphas)?;
     problem.linear = r.floats(linear)?;
+    if entry == Entry::Retired {
+        let retired = r.count()?;
+        problem.retired = r.padded(retired)?.to_vec();
+    }
 
     let mut told = Told {
         refusal: r.word()?,
@@ -350,15 +358,47 @@ pub fn check(bytes: &[u8]) -> Result<Tally, Vec<String>> {
 // ---- what is recorded
 
 const FIRST_SEED: u64 = 0x0a17_0115_c1a0_0000;
-/// Seeds that are taken as they come, but for idle runs.
-const PLAIN_DRAWS: u64 = 3000;
-/// Seeds that are looked through for what is rare.
-const ALL_DRAWS: u64 = 200_000;
-/// How many records there are at least of each mark, if the draws have them.
-const OF_EACH: u64 = 40;
-/// The same for a refusal before the run, of each entry.
-const OF_EACH_REFUSAL: u64 = 32;
-const MOST_RECORD_BYTES: usize = 4000;
+
+/// How drawn problems are chosen.
+struct Plan {
+    draw: fn(u64) -> Problem,
+    /// Seeds that are taken as they come, but for idle runs.
+    plain: u64,
+    /// Seeds that are looked through for what is rare.
+    all: u64,
+    /// Which marks are looked for.
+    owed: Owed,
+    /// How many records there are at least of each mark, if the draws have
+    /// them.
+    of_each: u64,
+    /// The same for a refusal before the run, of each entry.
+    of_each_refusal: u64,
+    /// The same for a run of more than 24 samples.
+    of_each_large: u64,
+    most_bytes: usize,
+}
+
+const DRAWN: Plan = Plan {
+    draw,
+    plain: 3000,
+    all: 200_000,
+    owed: Owed::Some,
+    of_each: 40,
+    of_each_refusal: 32,
+    of_each_large: 8,
+    most_bytes: 4000,
+};
+
+const RETIRED: Plan = Plan {
+    draw: draw_retired,
+    plain: 120,
+    all: 40_000,
+    owed: Owed::Retired,
+    of_each: 12,
+    of_each_refusal: 10,
+    of_each_large: 2,
+    most_bytes: 3000,
+};
 
 /// Larger ones: n, entry, shrinking, and whether the run ends in refusal 11.
 const BIG: [(usize, Entry, bool, bool); 14] = [
@@ -378,49 +418,78 @@ const BIG: [(usize, Entry, bool, bool); 14] = [
     (512, Entry::C, true, false),
 ];
 
-/// The records in their order: the worked runs, the draws as they come, rare
-/// ones, larger ones.
+const BIG_RETIRED: [(usize, Entry, bool, bool); 2] = [
+    (64, Entry::Retired, false, false),
+    (100, Entry::Retired, false, false),
+];
+
+/// The records in their order: the worked runs, the draws as they come with
+/// rare ones, larger ones; then the retired entry's draws and larger ones.
 pub fn chosen() -> (Vec<Vec<u8>>, Tally) {
-    let mut records = Vec::new();
-    let mut tally = Tally::default();
+    let mut set = Set::default();
     for p in worked::problems() {
         let answer = solve(&p, true);
-        tally.add(&p, &answer);
-        records.push(record(&p, &Told::of(&answer)));
+        set.take(&p, &answer);
     }
-    let least: Vec<u64> = names()
-        .into_iter()
-        .map(|(name, owed)| match owed {
-            Owed::None => 0,
-            Owed::Some if name.starts_with("refusal") => OF_EACH_REFUSAL,
-            Owed::Some => OF_EACH,
-        })
-        .collect();
-    for k in 0..ALL_DRAWS {
-        let p = draw(FIRST_SEED + k);
-        let answer = solve(&p, true);
-        let bytes = record(&p, &Told::of(&answer));
-        let large = p.n > 24 && judge(&p).is_none();
-        if bytes.len() > MOST_RECORD_BYTES && !(large && p.n <= 40) {
-            continue;
+    set.draw(&DRAWN);
+    set.draw_big(&BIG);
+    set.draw(&RETIRED);
+    set.draw_big(&BIG_RETIRED);
+    (set.records, set.tally)
+}
+
+#[derive(Default)]
+struct Set {
+    records: Vec<Vec<u8>>,
+    tally: Tally,
+}
+
+impl Set {
+    fn take(&mut self, p: &Problem, answer: &Answer) {
+        self.tally.add(p, answer);
+        self.records.push(record(p, &Told::of(answer)));
+    }
+
+    fn draw(&mut self, plan: &Plan) {
+        let least: Vec<u64> = names()
+            .into_iter()
+            .map(|(name, owed)| match name.starts_with("refusal") {
+                _ if owed != plan.owed => 0,
+                true => plan.of_each_refusal,
+                false => plan.of_each,
+            })
+            .collect();
+        for k in 0..plan.all {
+            let p = (plan.draw)(FIRST_SEED + k);
+            let answer = solve(&p, true);
+            let bytes = record(&p, &Told::of(&answer));
+            let large = p.n > 24 && judge(&p).is_none();
+            if bytes.len() > plan.most_bytes && !(large && p.n <= 40) {
+                continue;
+            }
+            let idle = answer.accepted().map_or(false, |a| a.iterations == 0);
+            let mut with = self.tally.clone();
+            let marks = with.add(&p, &answer);
+            let plain = k < plan.plain && !large && (!idle || k % 4 == 0);
+            let most = if large {
+                plan.of_each_large
+            } else {
+                plan.of_each
+            };
+            let rare = (0..marks.len()).any(|m| marks[m] && with.counts[m] <= least[m].min(most));
+            if plain || rare {
+                self.tally = with;
+                self.records.push(bytes);
+            }
         }
-        let idle = answer.accepted().map_or(false, |a| a.iterations == 0);
-        let mut with = tally.clone();
-        let marks = with.add(&p, &answer);
-        let plain = k < PLAIN_DRAWS && !large && (!idle || k % 4 == 0);
-        let most = if large { 8 } else { OF_EACH };
-        let rare = (0..marks.len()).any(|m| marks[m] && with.counts[m] <= least[m].min(most));
-        if plain || rare {
-            tally = with;
-            records.push(bytes);
+    }
+
+    fn draw_big(&mut self, all: &[(usize, Entry, bool, bool)]) {
+        for (n, entry, shrinking, ends_in_11) in all {
+            let (p, answer) = big(*n, *entry, *shrinking, *ends_in_11);
+            self.take(&p, &answer);
         }
     }
-    for (n, entry, shrinking, ends_in_11) in BIG {
-        let (p, answer) = big(n, entry, shrinking, ends_in_11);
-        tally.add(&p, &answer);
-        records.push(record(&p, &Told::of(&answer)));
-    }
-    (records, tally)
 }
 
 /// The first drawn problem of that size that is worth its room: where it

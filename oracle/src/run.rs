@@ -2,6 +2,7 @@
 
 use crate::judge::{judge, Refusal};
 use crate::problem::{Entry, Problem};
+use crate::retired;
 use linfa_kernel::Kernel;
 use linfa_svm::classification::{fit_c, fit_nu, fit_one_class};
 use linfa_svm::permutable_kernel::PermutableKernel;
@@ -104,6 +105,15 @@ pub fn solve(p: &Problem, trace: bool) -> Answer {
             events: Events::default(),
         };
     }
+    if p.entry == Entry::Retired {
+        return retired::solve(p, trace);
+    }
+    solve_judged(p, trace)
+}
+
+/// What the published solver answers to a problem that passed the judge, or
+/// to one of no samples at all.
+pub(crate) fn solve_judged(p: &Problem, trace: bool) -> Answer {
     watch::begin(trace);
     linfa::forget_zero_pair();
     let result = caught(|| run(p));
@@ -125,7 +135,6 @@ pub fn solve(p: &Problem, trace: bool) -> Answer {
     }
 }
 
-/// The published solver on a problem that passed the judge.
 fn run(p: &Problem) -> Svm<f64, f64> {
     let n = p.n as usize;
     let kernel = Kernel::given(n, p.entries());
@@ -156,6 +165,7 @@ fn run(p: &Problem) -> Svm<f64, f64> {
         Entry::C => fit_c(params, dataset, kernel, &labels, p.cpos, p.cneg),
         Entry::Nu => fit_nu(params, dataset, kernel, &labels, p.nu),
         Entry::OneClass => fit_one_class(params, dataset, kernel, p.nu),
+        Entry::Retired => unreachable!("what is left of it is a general problem"),
     }
 }
 
@@ -170,7 +180,7 @@ fn read(p: &Problem, svm: &Svm<f64, f64>, seen: Seen) -> Accepted {
             ExitReason::ReachedThreshold => Reason::Threshold,
             ExitReason::ReachedIterations => Reason::Iterations,
         },
-        support: home.iter().filter(|x| **x != 0.0).count() as u64,
+        support: support(&home),
         crate_reading: svm.alpha.clone(),
         home,
         order: seen.order,
@@ -182,6 +192,10 @@ fn read(p: &Problem, svm: &Svm<f64, f64>, seen: Seen) -> Accepted {
         labels: seen.labels,
         trace: seen.trace,
     }
+}
+
+pub(crate) fn support(home: &[f64]) -> u64 {
+    home.iter().filter(|x| **x != 0.0).count() as u64
 }
 
 /// The home reading, with the sign and the division that the entry's fit gives

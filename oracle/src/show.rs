@@ -39,7 +39,7 @@ pub fn problem(p: &Problem) -> String {
         line("labels", format!("{:?}", p.labels));
     }
     match p.entry {
-        Entry::General => {
+        Entry::General | Entry::Retired => {
             line("ceilings", floats(&p.ceilings));
             line("start alphas", floats(&p.alphas));
             line("linear term", floats(&p.linear));
@@ -50,6 +50,9 @@ pub fn problem(p: &Problem) -> String {
             line("cneg", float(p.cneg));
         }
         Entry::Nu | Entry::OneClass => line("nu", float(p.nu)),
+    }
+    if p.entry == Entry::Retired {
+        line("retired", format!("{:?}", p.retired));
     }
     line("eps", float(p.eps));
     line("shrinking", p.shrinking.to_string());

@@ -7,18 +7,23 @@ use oracle::marks::{is_own_inverse, Tally};
 use oracle::problem::MOST_PASSES;
 use oracle::record::{record, Told};
 use oracle::run::canonical;
-use oracle::{draw, judge, solve, Accepted, Entry, Outcome, Problem};
+use oracle::{draw, draw_retired, judge, solve, Accepted, Entry, Outcome, Problem};
+
+type Draw = fn(u64) -> Problem;
+const BOTH: [Draw; 2] = [draw, draw_retired];
 
 const DRAWS: u64 = 100_000;
 
 #[test]
 fn a_seed_draws_the_same_problem_and_answer() {
     for seed in (0..3000).chain(u64::MAX - 100..=u64::MAX) {
-        let twice = [0, 1].map(|_| {
-            let p = draw(seed);
-            record(&p, &Told::of(&solve(&p, true)))
-        });
-        assert_eq!(twice[0], twice[1], "seed {seed}");
+        for draw in BOTH {
+            let twice = [0, 1].map(|_| {
+                let p = draw(seed);
+                record(&p, &Told::of(&solve(&p, true)))
+            });
+            assert_eq!(twice[0], twice[1], "seed {seed}");
+        }
     }
 }
 
@@ -54,24 +59,29 @@ fn same(a: f64, b: f64) -> bool {
 #[test]
 fn every_answer_agrees_with_itself() {
     for seed in 1_000_000..1_020_000 {
-        let p = draw(seed);
-        let answer = solve(&p, true);
-        match &answer.outcome {
-            Outcome::Fault(message) => panic!("seed {seed}: {message}"),
-            Outcome::Refused(r) if r.number == 11 => {
-                assert!(p.shrinking, "seed {seed}");
-                assert_eq!((r.index, judge(&p)), (0, None), "seed {seed}");
-            }
-            Outcome::Refused(r) => {
-                assert_eq!(Some(*r), judge(&p), "seed {seed}");
-                assert_eq!(faults(&p)[0], r.number, "seed {seed}");
-            }
-            Outcome::Accepted(a) => {
-                assert_eq!(judge(&p), None, "seed {seed}");
-                agrees(&p, a, seed);
-                if !p.shrinking {
-                    assert_eq!(answer.events.walks, 0, "seed {seed}");
-                }
+        for draw in BOTH {
+            agrees_with_itself(&draw(seed), seed);
+        }
+    }
+}
+
+fn agrees_with_itself(p: &Problem, seed: u64) {
+    let answer = solve(p, true);
+    match &answer.outcome {
+        Outcome::Fault(message) => panic!("seed {seed}: {message}"),
+        Outcome::Refused(r) if r.number == 11 => {
+            assert!(p.shrinking, "seed {seed}");
+            assert_eq!((r.index, judge(p)), (0, None), "seed {seed}");
+        }
+        Outcome::Refused(r) => {
+            assert_eq!(Some(*r), judge(p), "seed {seed}");
+            assert_eq!(faults(p)[0], r.number, "seed {seed}");
+        }
+        Outcome::Accepted(a) => {
+            assert_eq!(judge(p), None, "seed {seed}");
+            agrees(p, a, seed);
+            if !p.shrinking {
+                assert_eq!(answer.events.walks, 0, "seed {seed}");
             }
         }
     }
@@ -88,7 +98,7 @@ fn agrees(p: &Problem, a: &Accepted, seed: u64) {
 
     // both readings from order and weights
     let finish = |sample: usize, w: f64| match p.entry {
-        Entry::General | Entry::OneClass => w,
+        Entry::General | Entry::OneClass | Entry::Retired => w,
         Entry::C if p.labels[sample] == 1 => w,
         Entry::C => -w,
         Entry::Nu => (if p.labels[sample] == 1 { w } else { -w }) / a.r.unwrap(),
@@ -134,8 +144,7 @@ fn agrees(p: &Problem, a: &Accepted, seed: u64) {
 #[test]
 fn no_drawn_run_is_long() {
     let mut large = 0;
-    for seed in 0..20_000 {
-        let p = draw(seed);
+    for p in (0..20_000).flat_map(|seed| BOTH.map(|draw| draw(seed))) {
         if judge(&p).is_none() && p.budget > 2000 {
             large += 1;
             let answer = solve(&p, false);

@@ -1,8 +1,9 @@
 //! The file of recorded answers: made again byte for byte, read back as it was
 //! written, and worth its room.
 
-use oracle::problem::{Entry, MOST_SAMPLES};
-use oracle::record::{check, chosen, file, read, record, MOST_RECORDED_PASSES};
+use oracle::problem::{Entry, Problem, MOST_SAMPLES};
+use oracle::record::{check, chosen, file, read, record, Told, MOST_RECORDED_PASSES};
+use oracle::solve;
 use std::fs;
 use std::path::Path;
 
@@ -69,6 +70,77 @@ fn the_file_keeps_its_limits() {
 }
 
 #[test]
+fn retired_records_stand_at_the_end() {
+    let bytes = recorded();
+    let records = read(&bytes).expect("the file is whole");
+    let first = records.partition_point(|r| r.problem.entry != Entry::Retired);
+    assert_eq!(first, 3431);
+    let (others, retired) = records.split_at(first);
+    assert!(others.iter().all(|r| r.problem.retired.is_empty()));
+    assert!(retired.iter().all(|r| r.problem.entry == Entry::Retired));
+    assert!((290..=330).contains(&retired.len()), "{}", retired.len());
+    let room = |r: &[oracle::record::Record]| -> usize {
+        r.iter().map(|r| record(&r.problem, &r.told).len()).sum()
+    };
+    assert_eq!(room(others) + 16, 3_496_312);
+    assert!(room(retired) < 400_000, "{} bytes", room(retired));
+    for number in Entry::Retired.judged() {
+        let of = retired.iter().filter(|r| r.told.refusal == number);
+        assert!(of.count() >= 8, "refusal {number}");
+    }
+    for nu_rule in [false, true] {
+        let kinds = |left: fn(usize, usize) -> bool| {
+            retired.iter().any(|r| {
+                let zeros = r.problem.retired.iter().filter(|b| **b == 0).count();
+                let fits = r.told.refusal == 0 && r.problem.nu_rule == nu_rule;
+                fits && left(zeros, r.problem.retired.len())
+            })
+        };
+        assert!(kinds(|k, n| k == n && n > 1), "nobody");
+        assert!(kinds(|k, n| 1 < k && k < n - 1), "some");
+        assert!(kinds(|k, n| k == 1 && n > 2), "all but one");
+        assert!(kinds(|k, n| k == 0 && n > 1), "everybody");
+        assert!(kinds(|_, n| n >= 64), "many samples");
+    }
+}
+
+/// The retired bytes stand behind the linear terms with their number, before
+/// the answer; no other entry has them.
+#[test]
+fn a_retired_record_word_for_word() {
+    let mut p = Problem::over(Entry::Retired, 2, &[1.0, 2.0, 3.0, 4.0]);
+    (p.labels, p.retired) = (vec![1, 0], vec![0, 1]);
+    (p.ceilings, p.alphas) = (vec![1.0, 2.0], vec![0.0, 2.0]);
+    p.linear = vec![-1.0, 0.5];
+    let words = |p: &Problem| -> Vec<u64> {
+        let bytes = record(p, &Told::of(&solve(p, true)));
+        let words = bytes.chunks_exact(8);
+        words
+            .map(|b| u64::from_le_bytes(b.try_into().unwrap()))
+            .collect()
+    };
+    let all = words(&p);
+    assert_eq!((all[0], all[1], all[2]), (8 * 49, 4, 2));
+    assert_eq!((all[9], all[10], all[13], all[19]), (32, 2, 2, 1));
+    // a matrix of four signed bytes, the labels
+    assert_eq!((all[20], all[21]), (0x0403_0201, 0x01));
+    let floats = [1.0, 2.0, 0.0, 2.0, -1.0, 0.5].map(f64::to_bits);
+    assert_eq!(all[22..28], floats);
+    // two retired bytes, filled up; then the answer
+    assert_eq!((all[28], all[29]), (2, 0x0100));
+    assert_eq!(all[30..32], [0, 0]);
+    assert_eq!(all.len(), 30 + 10 + 4 * 2 + 1);
+    p.entry = Entry::General;
+    let general = words(&p);
+    assert_eq!(general[2..28], all[2..28]);
+    assert_eq!(general[28], 0);
+    // none at all is a word of 0
+    p.entry = Entry::Retired;
+    p.retired.clear();
+    assert_eq!(words(&p)[28..31], [0, 2, 0]);
+}
+
+#[test]
 fn a_changed_file_is_noticed() {
     let bytes = recorded();
     assert!(read(&bytes[..bytes.len() - 8]).is_err());
@@ -83,4 +155,25 @@ fn a_changed_file_is_noticed() {
     other[rho] = 1;
     let wrong = check(&other).expect_err("a changed rho is noticed");
     assert_eq!(wrong.len(), 1);
+
+    // the last record has 100 samples in form 1, so its retired bytes stand
+    // behind 20 words, 10,000 and 100 bytes in words, 300 words and one more
+    let last = read(&bytes).expect("the file is whole").pop();
+    let last = last.expect("there is a last record");
+    let start = bytes.len() - record(&last.problem, &last.told).len();
+    let retired = start + 8 * (20 + 1250 + 13 + 300 + 1);
+    let lent = &bytes[retired..retired + 100];
+    assert_eq!(lent, last.problem.retired);
+    let mut other = bytes.clone();
+    let k = lent
+        .iter()
+        .position(|b| *b == 1)
+        .expect("somebody is retired");
+    other[retired + k] = 0;
+    let wrong = check(&other).expect_err("a changed retired byte is noticed");
+    assert_eq!(wrong.len(), 1);
+    // and so is padding that isn't zero
+    let mut other = bytes.clone();
+    other[retired + 100] = 1;
+    assert!(read(&other).is_err());
 }

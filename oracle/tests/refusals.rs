@@ -14,7 +14,7 @@ fn sound(entry: Entry) -> Problem {
         p.labels = vec![1, 0, 1];
     }
     match entry {
-        Entry::General => {
+        Entry::General | Entry::Retired => {
             p.ceilings = vec![1.0, 2.0, 3.0];
             p.alphas = vec![0.5, 0.0, 3.0];
             p.linear = vec![-1.0, 0.0, 1.0];
@@ -25,8 +25,14 @@ fn sound(entry: Entry) -> Problem {
         }
         Entry::Nu | Entry::OneClass => p.nu = 0.5,
     }
+    if entry == Entry::Retired {
+        p.retired = vec![0, 1, 0];
+    }
     p
 }
+
+const LABELLED: [Entry; 4] = [Entry::General, Entry::C, Entry::Nu, Entry::Retired];
+const WITH_LISTS: [Entry; 2] = [Entry::General, Entry::Retired];
 
 fn told(p: &Problem) -> Option<(u64, u64)> {
     let judged = judge(p).map(|r| (r.number, r.index));
@@ -100,7 +106,7 @@ fn two_lengths() {
         };
         assert_eq!(change(entry, roomy), None);
     }
-    for entry in [Entry::General, Entry::C, Entry::Nu] {
+    for entry in LABELLED {
         assert_eq!(change(entry, |p| p.labels.push(1)), Some((2, 0)));
         assert_eq!(change(entry, |p| p.labels.truncate(2)), Some((2, 0)));
     }
@@ -114,7 +120,21 @@ fn two_lengths() {
                     }
                 }
             };
-            assert_eq!(change(Entry::General, change_list), Some((2, 0)));
+            for entry in WITH_LISTS {
+                assert_eq!(change(entry, change_list), Some((2, 0)));
+            }
+        }
+    }
+}
+
+#[test]
+fn two_retired_bytes() {
+    for len in [0, 2, 4, 24] {
+        let change_list = |p: &mut Problem| p.retired.resize(len, 0);
+        assert_eq!(change(Entry::Retired, change_list), Some((2, 0)));
+        // the other entries don't take it
+        for entry in Entry::DRAWN {
+            assert_eq!(change(entry, change_list), None);
         }
     }
 }
@@ -160,7 +180,7 @@ fn three_the_index_is_column_first() {
 
 #[test]
 fn four_labels() {
-    for entry in [Entry::General, Entry::C, Entry::Nu] {
+    for entry in LABELLED {
         for y in [2, 3, 128, 255] {
             for k in 0..3 {
                 assert_eq!(change(entry, |p| p.labels[k] = y), Some((4, k as u64)));
@@ -182,7 +202,9 @@ fn five_ceilings() {
                 p.alphas[k] = 0.0;
                 p.ceilings[k] = *c;
             };
-            assert_eq!(change(Entry::General, one), Some((5, k as u64)));
+            for entry in WITH_LISTS {
+                assert_eq!(change(entry, one), Some((5, k as u64)));
+            }
         }
         assert_eq!(change(Entry::C, |p| p.cpos = *c), Some((5, 0)));
         assert_eq!(change(Entry::C, |p| p.cneg = *c), Some((5, 1)));
@@ -208,7 +230,9 @@ fn five_ceilings() {
             p.ceilings = vec![c; 3];
             p.alphas = vec![0.0, -0.0, c];
         };
-        assert_eq!(change(Entry::General, set), None);
+        for entry in WITH_LISTS {
+            assert_eq!(change(entry, set), None);
+        }
         assert_eq!(change(Entry::C, |p| p.cpos = c), None);
     }
 }
@@ -225,7 +249,9 @@ fn six_start_alphas() {
                 p.alphas = vec![1.0, -0.0, 0.5];
                 p.alphas[k] = a;
             };
-            assert_eq!(change(Entry::General, one), Some((6, k as u64)));
+            for entry in WITH_LISTS {
+                assert_eq!(change(entry, one), Some((6, k as u64)));
+            }
         }
     }
 }
@@ -234,16 +260,15 @@ fn six_start_alphas() {
 fn seven_linear_terms() {
     let mut bad = nans();
     bad.extend([f64::INFINITY, f64::NEG_INFINITY]);
-    for x in bad {
-        for k in 0..3 {
-            assert_eq!(
-                change(Entry::General, |p| p.linear[k] = x),
-                Some((7, k as u64))
-            );
+    for entry in WITH_LISTS {
+        for x in &bad {
+            for k in 0..3 {
+                assert_eq!(change(entry, |p| p.linear[k] = *x), Some((7, k as u64)));
+            }
         }
-    }
-    for x in [f64::MAX, -f64::MAX, -0.0] {
-        assert_eq!(change(Entry::General, |p| p.linear = vec![x; 3]), None);
+        for x in [f64::MAX, -f64::MAX, -0.0] {
+            assert_eq!(change(entry, |p| p.linear = vec![x; 3]), None);
+        }
     }
 }
 
@@ -275,7 +300,7 @@ fn nine_nu() {
         }
     }
     // the other entries don't take it
-    for entry in [Entry::General, Entry::C] {
+    for entry in [Entry::General, Entry::C, Entry::Retired] {
         assert_eq!(change(entry, |p| p.nu = f64::NAN), None);
     }
 }
@@ -292,17 +317,82 @@ fn ten_budget() {
     }
 }
 
+#[test]
+fn twelve_retired_bytes() {
+    for b in [2, 3, 128, 255] {
+        for k in 0..3 {
+            let one = |p: &mut Problem| p.retired[k] = b;
+            assert_eq!(change(Entry::Retired, one), Some((12, 0)));
+            for entry in Entry::DRAWN {
+                let unread = |p: &mut Problem| p.retired = vec![b; 3];
+                assert_eq!(change(entry, unread), None);
+            }
+        }
+    }
+    for bytes in [[0, 0, 0], [1, 1, 1], [1, 0, 1]] {
+        let set = |p: &mut Problem| p.retired = bytes.to_vec();
+        assert_eq!(change(Entry::Retired, set), None);
+    }
+}
+
+#[test]
+fn thirteen_shrinking() {
+    for retired in [[0; 3], [1; 3], [0, 1, 0]] {
+        let on = |p: &mut Problem| {
+            p.shrinking = true;
+            p.retired = retired.to_vec();
+        };
+        assert_eq!(change(Entry::Retired, on), Some((13, 0)));
+    }
+    for entry in Entry::DRAWN {
+        assert_eq!(change(entry, |p| p.shrinking = true), None);
+    }
+}
+
+/// Each entry has its numbers before a run, and 11 isn't among them.
+#[test]
+fn the_numbers_of_each_entry() {
+    let numbers = |entry: Entry| entry.judged().collect::<Vec<u64>>();
+    assert_eq!(numbers(Entry::General), [1, 2, 3, 4, 5, 6, 7, 8, 10]);
+    assert_eq!(numbers(Entry::C), [1, 2, 3, 4, 5, 8, 10]);
+    assert_eq!(numbers(Entry::Nu), [1, 2, 3, 4, 8, 9, 10]);
+    assert_eq!(numbers(Entry::OneClass), [1, 2, 3, 8, 9, 10]);
+    assert_eq!(
+        numbers(Entry::Retired),
+        [1, 2, 3, 4, 5, 6, 7, 8, 10, 12, 13]
+    );
+    for entry in Entry::ALL {
+        assert_eq!(entry.can_refuse(11), entry != Entry::Retired);
+        assert_eq!(Entry::from_number(entry.number()), Some(entry));
+    }
+    assert_eq!(Entry::Retired.number(), 4);
+    assert_eq!(Entry::from_number(5), None);
+}
+
 /// All faults at once, taken away one after another: each time the lowest of
 /// those left is told.
 #[test]
 fn the_lowest_number_is_given() {
-    let mut p = sound(Entry::General);
+    for entry in WITH_LISTS {
+        all_at_once(entry);
+    }
+    let mut p = sound(Entry::Nu);
+    p.budget = 0;
+    p.nu = 0.0;
+    assert_eq!(told(&p), Some((9, 0)));
+}
+
+/// The faulty values stand at sample 1, which is retired where that can be.
+fn all_at_once(entry: Entry) {
+    let mut p = sound(entry);
+    p.shrinking = entry == Entry::Retired;
+    p.retired.iter_mut().skip(2).for_each(|b| *b = 2);
     p.budget = 0;
     p.eps = -0.0;
     p.linear[1] = f64::NAN;
-    p.alphas[2] = -1.0;
+    p.alphas[1] = -1.0;
     p.ceilings[1] = 0.0;
-    p.labels[2] = 2;
+    p.labels[1] = 2;
     p.set_pattern(5, u64::MAX);
     p.crate_len = 0;
     p.n = 513;
@@ -312,22 +402,23 @@ fn the_lowest_number_is_given() {
     p.crate_len = 3;
     assert_eq!(told(&p), Some((3, 5)));
     p.set_pattern(5, 0);
-    assert_eq!(told(&p), Some((4, 2)));
-    p.labels[2] = 0;
+    assert_eq!(told(&p), Some((4, 1)));
+    p.labels[1] = 0;
     assert_eq!(told(&p), Some((5, 1)));
     p.ceilings[1] = 1.0;
-    assert_eq!(told(&p), Some((6, 2)));
-    p.alphas[2] = 0.0;
+    assert_eq!(told(&p), Some((6, 1)));
+    p.alphas[1] = 0.0;
     assert_eq!(told(&p), Some((7, 1)));
     p.linear[1] = 0.0;
     assert_eq!(told(&p), Some((8, 0)));
     p.eps = 0.0;
     assert_eq!(told(&p), Some((10, 0)));
     p.budget = 1;
+    if entry == Entry::Retired {
+        assert_eq!(told(&p), Some((12, 0)));
+        p.retired[2] = 1;
+        assert_eq!(told(&p), Some((13, 0)));
+        p.shrinking = false;
+    }
     assert_eq!(told(&p), None);
-
-    let mut p = sound(Entry::Nu);
-    p.budget = 0;
-    p.nu = 0.0;
-    assert_eq!(told(&p), Some((9, 0)));
 }

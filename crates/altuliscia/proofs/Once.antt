@@ -10,6 +10,9 @@ use Rattle.hosted.specs.Hosted.{Handed, handed}
 use Rattle.altuliscia.proofs.altuliscia_general.{signature as general-signature}
 use Rattle.altuliscia.proofs.altuliscia_general.Kinds as general-kinds
 use Rattle.altuliscia.proofs.altuliscia_general.Reads as general-reads
+use Rattle.altuliscia.proofs.altuliscia_retired.{signature as retired-signature}
+use Rattle.altuliscia.proofs.altuliscia_retired.Kinds as retired-kinds
+use Rattle.altuliscia.proofs.altuliscia_retired.Reads as retired-reads
 use Rattle.altuliscia.proofs.altuliscia_c.{signature as c-signature}
 use Rattle.altuliscia.proofs.altuliscia_c.Kinds as c-kinds
 use Rattle.altuliscia.proofs.altuliscia_c.Reads as c-reads
@@ -27,6 +30,13 @@ general-left κs r s = handed r (now (s .1 .1 .1 .1 .1 .1 .1 .1 .1 .1 .0)) (now 
 pub general-once : (κs : Lfts 8) (a : ArgsD general-signature κs) (r r' : ResD general-signature κs) (s s' : AtExit (endedOf 8 general-kinds.ps general-kinds.r) κs)
     → general-reads.Post κs a r s → general-reads.Post κs a r' s' → _≡_ {A = Handed} (general-left κs r s) (general-left κs r' s')
 general-once κs a r r' s s' p q = p ∙ sym q
+
+abbrev retired-left : (κs : Lfts 10) → ResD retired-signature κs → AtExit (endedOf 10 retired-kinds.ps retired-kinds.r) κs → Handed
+retired-left κs r s = handed r (now (s .1 .1 .1 .1 .1 .1 .1 .1 .1 .1 .1 .1 .0)) (now (s .1 .1 .1 .1 .1 .1 .1 .1 .1 .1 .1 .1 .1 .0)) (now (s .1 .1 .1 .1 .1 .1 .1 .1 .1 .1 .1 .1 .1 .1 .0))
+
+pub retired-once : (κs : Lfts 10) (a : ArgsD retired-signature κs) (r r' : ResD retired-signature κs) (s s' : AtExit (endedOf 10 retired-kinds.ps retired-kinds.r) κs)
+    → retired-reads.Post κs a r s → retired-reads.Post κs a r' s' → _≡_ {A = Handed} (retired-left κs r s) (retired-left κs r' s')
+retired-once κs a r r' s s' p q = p ∙ sym q
 
 abbrev c-left : (κs : Lfts 5) → ResD c-signature κs → AtExit (endedOf 5 c-kinds.ps c-kinds.r) κs → Handed
 c-left κs r s = handed r (now (s .1 .1 .1 .1 .1 .1 .1 .1 .0)) (now (s .1 .1 .1 .1 .1 .1 .1 .1 .1 .0)) (now (s .1 .1 .1 .1 .1 .1 .1 .1 .1 .1 .0))

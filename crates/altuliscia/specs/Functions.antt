@@ -6,6 +6,7 @@ use lib.Dec.{eqb}
 use lib.Ieee.{Float, binary64, ofBits}
 use lib.ListN.{length}
 use Rattle.classification.specs.Entries.{generalSized, fitCSized, fitNuSized, fitOneClassSized}
+use Rattle.retired.specs.Entry.{retiredSized}
 use Rattle.hosted.specs.Hosted.{floatsOf, eights, hostSizes, room, Handed, delivered, hostedBy}
 
 -- a flag is on when it isn't 0
@@ -28,6 +29,20 @@ generalHost n m l c a p nurule eps shrinking budget cr h an =
     hostedBy
     (byteSizes n (generalInputs n l c a p) m cr h an)
     (delivered n (generalSized n m l (floatsOf c n) (floatsOf a n) (floatsOf p n) (isOn nurule) (asFloat eps) (isOn shrinking) budget room) cr h an)
+    cr
+    h
+    an
+
+-- no word of a tuning is known yet
+abbrev pub tuningKnown : List ℕ → Bool
+tuningKnown t = eqb (length t) 0
+
+-- .. linear, retired bytes, .. budget, tuning; ..
+unfoldable pub retiredHost : ℕ → List ℕ → List ℕ → List ℕ → List ℕ → List ℕ → List ℕ → ℕ → ℕ → ℕ → ℕ → List ℕ → List ℕ → List ℕ → List ℕ → Handed
+retiredHost n m l c a p r nurule eps shrinking budget t cr h an =
+    hostedBy
+    (byteSizes n (generalInputs n l c a p && eqb (length r) n && tuningKnown t) m cr h an)
+    (delivered n (retiredSized n m l (floatsOf c n) (floatsOf a n) (floatsOf p n) r (isOn nurule) (asFloat eps) (isOn shrinking) budget room) cr h an)
     cr
     h
     an

@@ -2,7 +2,7 @@
 ghost use mathlib.Core.Path.{_≡_};
 ghost use Prim.Native.Nat.{ℕ};
 ghost use Rattle.hosted.specs.Hosted.{Handed, handed};
-ghost use Rattle.altuliscia.specs.Functions.{generalHost, cHost, nuHost, oneClassHost};
+ghost use Rattle.altuliscia.specs.Functions.{generalHost, retiredHost, cHost, nuHost, oneClassHost};
 
 // Labels l, ceilings c, start alphas a and linear term p.
 #[no_mangle]
@@ -41,6 +41,60 @@ pub extern "C" fn altuliscia_general(
             nurule != 0,
             eps64,
             shrinking != 0,
+            budget,
+            cr,
+            h,
+            answer,
+        );
+    }
+    hosted::turn_away(answer, s);
+    s
+}
+
+// The general one, over the samples that aren't retired: a byte of r for each sample, and a tuning t of which no word is known yet.
+#[no_mangle]
+pub extern "C" fn altuliscia_retired(
+    n: usize,
+    m: &[u8],
+    l: &[u8],
+    c: &[u8],
+    a: &[u8],
+    p: &[u8],
+    r: &[u8],
+    nurule: u8,
+    eps: u64,
+    shrinking: u8,
+    budget: u64,
+    t: &[u8],
+    cr: &mut [u8],
+    h: &mut [u8],
+    answer: &mut [u8],
+) -> u64
+    ensures { λ k. ⌜ _≡_ {A = Handed} (handed k (now (cr .exit)) (now (h .exit)) (now (answer .exit)))
+        (retiredHost n (now (m .entry)) (now (l .entry)) (now (c .entry)) (now (a .entry)) (now (p .entry)) (now (r .entry)) nurule eps shrinking budget (now (t .entry)) (now (cr .entry)) (now (h .entry)) (now (answer .entry))) ⌝ }
+{
+    let lists = (l.len() == n)
+        & hosted::are_floats(n, c.len())
+        & hosted::are_floats(n, a.len())
+        & hosted::are_floats(n, p.len())
+        & (r.len() == n)
+        & (t.len() == 0);
+    let s = hosted::sized(n, lists, m.len(), cr.len(), h.len(), answer.len());
+    if s == 0 {
+        let nu = nurule != 0;
+        let shrunk = shrinking != 0;
+        let eps64 = wire::float_of(eps);
+        return served::retired(
+            n,
+            m,
+            l,
+            c,
+            a,
+            p,
+            r,
+            nu,
+            eps64,
+            shrunk,
             budget,
             cr,
             h,

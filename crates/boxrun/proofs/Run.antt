@@ -77,6 +77,11 @@ module _ (g : Given) (m : List ℕ) {b : Float} {bs : List Float} (o : OneCeilin
   box-trained s h budget k l =
       trained-keeps g m B by-rebuilt by-moved bs by-updated budget s (boxed-started p bs h) .kept .lent .held k l .value
 
+  -- the pair that is chosen there steps by no NaN
+  pub no-nan-chosen : (s : State) → LentBoxed b p s → (t i j : ℕ) → chosen g m (runs g m bs (startOf g m bs s) t) ≡ Pair i j
+      → Real (deltaAt p (runs g m bs (startOf g m bs s) t .state) (g .floor) i j)
+  no-nan-chosen s h t i j e = step-real (runs g m bs (startOf g m bs s) t) i j e (box-runs s h t)
+
   -- no step is NaN: where the pass after t steps with i and j, it steps from its last look
   pub no-nan-runs : (s : State) → LentBoxed b p s → (t i j : ℕ) → pairFrom g m (runs g m bs (startOf g m bs s) t) ≡ Pair i j
       → Real (deltaAt p (lookAt g m (countedDown g m (runs g m bs (startOf g m bs s) t)) .state) (g .floor) i j)

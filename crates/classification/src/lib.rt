@@ -16,7 +16,7 @@ use answer::Outcome;
 use kernel::Kind;
 use solver::Given;
 
-fn given(n: usize, kind: Kind, eps: f64, shrinking: bool, nu: bool) -> Given
+pub fn given(n: usize, kind: Kind, eps: f64, shrinking: bool, nu: bool) -> Given
     ensures { λ g. ⌜ g ≡ givenOf n kind eps shrinking nu ⌝ }
 {
     Given {

@@ -26,7 +26,7 @@ fn load_floats(f: &mut [f64], c: &[f64], a: &[f64], p: &[f64], n: usize)
     }
 }
 
-fn load_numbers(u: &mut [u64], n: usize)
+pub fn load_numbers(u: &mut [u64], n: usize)
     requires { ⌜ (n ≤ 512) × (2 * n ≤ length (now u)) ⌝ }
     ensures { λ _. ⌜ now (u .exit) ≡ loadedNumbers n (now (u .entry)) n ⌝ }
 {
@@ -36,7 +36,7 @@ fn load_numbers(u: &mut [u64], n: usize)
     }
 }
 
-fn load_labels(y: &mut [u8], l: &[u8], n: usize)
+pub fn load_labels(y: &mut [u8], l: &[u8], n: usize)
     requires { ⌜ (n ≤ length (now y)) × (n ≤ length (now l)) ⌝ }
     ensures { λ _. ⌜ now (y .exit) ≡ loadedLabels (now (l .entry)) (now (y .entry)) n ⌝ }
 {

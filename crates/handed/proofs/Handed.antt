@@ -27,7 +27,7 @@ use Rattle.judge.specs.declared.Judged.{Judged}
 use Rattle.judge.specs.declared.Judged.the-variants.{Fine}
 use Rattle.lists.proofs.Prefix.{prefix-at}
 use Rattle.promises.specs.Fit.{Fit, generalFit, cFit, nuFit, oneClassFit, weightAfter, stepsTaken}
-use Rattle.promises.proofs.Accepts.{decided-in}
+use Rattle.classification.proofs.Accepts.{decided-in}
 use Rattle.promises.proofs.Alike.{served-alike}
 use Rattle.promises.proofs.Box.{Common, served-box, served-home-box}
 use Rattle.promises.proofs.Boxes.{general-common}
@@ -41,7 +41,7 @@ use Rattle.handed.proofs.Stored.{stored-at}
 
 -- ---- 0 says: not turned away
 
-turned-not : (number : ℕ) (w : Handed) (cr h an : List ℕ) → hostedBy number w cr h an .code ≡ 0 → (number ≡ 0) × (hostedBy number w cr h an ≡ w)
+pub turned-not : (number : ℕ) (w : Handed) (cr h an : List ℕ) → hostedBy number w cr h an .code ≡ 0 → (number ≡ 0) × (hostedBy number w cr h an ≡ w)
 unfolding hostedBy
 turned-not number w cr h an = go (eqb number 0) refl
   where
@@ -52,13 +52,13 @@ turned-not number w cr h an = go (eqb number 0) refl
 
 -- ---- and not refused
 
-record Out (n : ℕ) (w : Whole) (cr h : List ℕ) (o : Handed) : Type 0 where
-  answer : Answer
-  accepted : w .out ≡ Accepted answer
-  crate : o .crate ≡ storedTo (w .left .crate) cr n
-  home : o .home ≡ storedTo (w .left .home) h n
+pub record Out (n : ℕ) (w : Whole) (cr h : List ℕ) (o : Handed) : Type 0 where
+  pub answer : Answer
+  pub accepted : w .out ≡ Accepted answer
+  pub crate : o .crate ≡ storedTo (w .left .crate) cr n
+  pub home : o .home ≡ storedTo (w .left .home) h n
 
-delivered-out : (n : ℕ) (w : Whole) (cr h an : List ℕ) → ((number index : ℕ) → w .out ≡ Refused number index → 1 ≤ number)
+pub delivered-out : (n : ℕ) (w : Whole) (cr h an : List ℕ) → ((number index : ℕ) → w .out ≡ Refused number index → 1 ≤ number)
     → delivered n w cr h an .code ≡ 0 → Out n w cr h (delivered n w cr h an)
 unfolding delivered deliveredBy
 delivered-out n w cr h an some = go (w .out) refl
@@ -70,7 +70,7 @@ delivered-out n w cr h an some = go (w .out) refl
 
 -- ---- a fit over the call's own room
 
-room-fits : (n m : ℕ) → Room n m 512 512 3584 1024 512 → Room n m (length (room .crate)) (length (room .home)) (length (room .floats)) (length (room .numbers)) (length (room .bytes))
+pub room-fits : (n m : ℕ) → Room n m 512 512 3584 1024 512 → Room n m (length (room .crate)) (length (room .home)) (length (room .floats)) (length (room .numbers)) (length (room .bytes))
 unfolding freshPlaces freshFloats freshNumbers freshBytes
 room-fits n m r = rw (length-replicate 512 Weight.zero, length-replicate 3584 Weight.zero, length-replicate {A = ℕ} 1024 0, length-replicate {A = ℕ} 512 0) r
 
@@ -127,7 +127,7 @@ unfolding entered sizes
 let-in n inputs m rc rh f u y w d i r =
     rw (lt-ltb 0 n (r .some), le-leb n 512 (r .most), i, eq-eqb m (8 * (n * n)) (r .matrix), le-leb n rc (r .crate), le-leb n rh (r .home), le-leb (7 * n) f (r .floats), le-leb (2 * n) u (r .numbers), le-leb n y (r .bytes))
 
-floats-at : (b : List ℕ) (n i : ℕ) → n ≤ 512 → i < n → getD (floatsOf b n) i nan ≡ floatAt b (8 * i)
+pub floats-at : (b : List ℕ) (n i : ℕ) → n ≤ 512 → i < n → getD (floatsOf b n) i nan ≡ floatAt b (8 * i)
 unfolding decodedTo freshPlaces
 floats-at b n i few h = prefix-at nan (decodedTo b freshPlaces) (λ k. floatAt b (8 * k)) (λ k. refl) n i (rw (length-replicate 512 Weight.zero) few) h
 

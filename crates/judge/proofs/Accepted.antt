@@ -1,10 +1,12 @@
 -- What an entry's list of judgements says where it is fine. Assumes nothing.
-use Prim.Native.Nat.{ℕ, _*_, _≤_, _<_}
+use Prim.Native.Nat.{ℕ, zero as none, suc, _*_, _≤_, _<_}
 use mathlib.Core.Bool.{Bool, true, not, _&&_}
 use mathlib.Core.List.{List}
-use mathlib.Core.Path.{_≡_, sym, subst}
+use mathlib.Core.Logic.{inl, inr}
+use mathlib.Core.Path.{_≡_, refl, sym, subst}
+use native.Mathlib.Nat.{eq-or-lt-of-le}
 use native.Mathlib.Omega.{arith}
-use borrow.Author.Tests.{ltb-true, leb-true}
+use borrow.Author.Tests.{ltb-true, leb-true, le-leb}
 use lib.Dec.{T, ltb, leb}
 use lib.ListN.{length, getD}
 use lib.Ieee.{Float, nan, binary64, nanBits, neg, lt, le}
@@ -14,7 +16,7 @@ use Rattle.kernel.specs.Matrix.{Matrix}
 use Rattle.rounding.proofs.Order.{holds, le-real, both}
 use Rattle.wire.specs.Wire.{digits, floatAt}
 use Rattle.judge.specs.declared.Judged.the-variants.{Fine}
-use Rattle.judge.specs.Judge.{first, need, after, isCeiling, entryGood, labelGood, ceilingGood, costGood, alphaGood, linearGood, epsGood, nuGood, budgetGood, samplesJudged, generalJudged, cJudged, nuJudged, oneClassJudged}
+use Rattle.judge.specs.Judge.{first, need, after, isCeiling, entryGood, labelGood, ceilingGood, costGood, alphaGood, linearGood, epsGood, nuGood, budgetGood, bytesGood, samplesJudged, generalJudged, cJudged, nuJudged, oneClassJudged}
 use Rattle.judge.proofs.First.{first-fine, need-fine, after-fine}
 
 -- ---- what a good place says
@@ -48,6 +50,22 @@ nu-within nu h = two (lt zero nu) (le nu one) h
 pub budget-within : (budget : ℕ) → budgetGood budget ≡ true → (0 < budget) × (budget ≤ 10000000)
 unfolding budgetGood
 budget-within budget h = let p = both (ltb 0 budget) (leb budget 10000000) h in (ltb-true 0 budget (p .0), leb-true budget 10000000 (p .1))
+
+-- 12, both ways
+pub bytes-within : (r : List ℕ) (n : ℕ) → bytesGood r n ≡ true → (k : ℕ) → k < n → getD r k 0 ≤ 1
+unfolding bytesGood
+bytes-within r none h k l = let z : ⊥ = omega arith in absurd z
+bytes-within r (suc n) h k l =
+    let p = both (bytesGood r n) (leb (getD r n 0) 1) h in
+    elim (eq-or-lt-of-le l) [
+      | inl e ↦ let q : k ≡ n = omega arith in rw q (leb-true (getD r n 0) 1 (p .1))
+      | inr g ↦ bytes-within r n (p .0) k (omega arith)
+    ]
+
+pub within-bytes : (r : List ℕ) (n : ℕ) → ((k : ℕ) → k < n → getD r k 0 ≤ 1) → bytesGood r n ≡ true
+unfolding bytesGood
+within-bytes r none h = refl
+within-bytes r (suc n) h = rw (within-bytes r n (λ k l. h k (omega arith)), le-leb (getD r n 0) 1 (h n (omega arith)))
 
 -- a good entry is no NaN's pattern
 entry-number : (m : List ℕ) (k : ℕ) → entryGood m k ≡ true → T (not (nanBits binary64 (digits m (8 * k) 8)))

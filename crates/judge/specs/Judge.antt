@@ -1,4 +1,4 @@
--- Refusals 3 to 10: what an input must be, and which number and index is given where it isn't (the rule, section 'What a caller lends and gets').
+-- Refusals 3 to 10, 12 and 13: what an input must be, and which number and index is given where it isn't (the rule, section 'What a caller lends and gets').
 use Prim.Native.Nat.{ℕ, zero, suc, _*_}
 use mathlib.Core.Bool.{Bool, true, false, not, _&&_, cond}
 use mathlib.Core.List.{List}
@@ -80,7 +80,12 @@ nuGood nu = lt nought nu && le nu one
 unfoldable pub budgetGood : ℕ → Bool
 budgetGood budget = ltb 0 budget && leb budget 10000000
 
--- ---- the four entries
+-- 12: the first bytes are 0 or 1
+unfoldable pub bytesGood : List ℕ → ℕ → Bool
+bytesGood r zero = true
+bytesGood r (suc k) = bytesGood r k && leb (getD r k 0) 1
+
+-- ---- the entries
 
 -- 3 and 4
 abbrev pub samplesJudged : ℕ → List ℕ → List ℕ → Judged
@@ -93,6 +98,11 @@ generalJudged n m l c a p eps budget =
     let j6 = after j5 (first 6 (alphaGood a c) n 0) in
     let j7 = after j6 (first 7 (linearGood p) n 0) in
     after (after j7 (need 8 (epsGood eps))) (need 10 (budgetGood budget))
+
+-- .. 12 and 13: r are the retired bytes
+unfoldable pub retiredJudged : ℕ → List ℕ → List ℕ → List Float → List Float → List Float → List ℕ → Float → Bool → ℕ → Judged
+retiredJudged n m l c a p r eps shrinking budget =
+    after (after (generalJudged n m l c a p eps budget) (need 12 (bytesGood r n))) (need 13 (not shrinking))
 
 -- 3, 4, 5, 8 and 10
 unfoldable pub cJudged : ℕ → List ℕ → List ℕ → Float → Float → Float → ℕ → Judged

@@ -1,9 +1,10 @@
-// Refusals 1 and 2, and 4 to 10 each by itself: what is lent and given is judged before anything is written.
+// Refusals 1 and 2, 4 to 10, 12 and 13, each by itself: what is lent and given is judged before anything is written.
+ghost use mathlib.Core.Bool.{not};
 ghost use mathlib.Core.Path.{_≡_};
 ghost use Prim.Native.Nat.{ℕ, _*_, _≤_};
 ghost use lib.ListN.{length};
 ghost use Rattle.judge.specs.Sizes.{roomGood, sizes};
-ghost use Rattle.judge.specs.Judge.{first, need, after, isBad, isCeiling, labelGood, ceilingGood, costGood, alphaGood, linearGood, epsGood, nuGood, budgetGood};
+ghost use Rattle.judge.specs.Judge.{first, need, after, isBad, isCeiling, labelGood, ceilingGood, costGood, alphaGood, linearGood, epsGood, nuGood, budgetGood, bytesGood};
 use alpha::Alpha;
 
 // Fine, or a refusal's number and the offending index.
@@ -187,4 +188,42 @@ pub fn budget_judged(j: Judged, budget: u64) -> Judged
         return Judged::Fine;
     }
     Judged::Bad(10, 0)
+}
+
+fn bytes_good(r: &[u8], n: usize) -> bool
+    requires { ⌜ n ≤ length (now r) ⌝ }
+    ensures { λ z. ⌜ z ≡ bytesGood (now (r .entry)) n ⌝ }
+{
+    let mut good = true;
+    for k in 0..n {
+        good = good & (r[k] <= 1);
+    }
+    good
+}
+
+// Refusal 12.
+pub fn retired_judged(j: Judged, r: &[u8], n: usize) -> Judged
+    requires { ⌜ n ≤ length (now r) ⌝ }
+    ensures { λ z. ⌜ z ≡ after j (need 12 (bytesGood (now (r .entry)) n)) ⌝ }
+{
+    if is_bad(j) {
+        return j;
+    }
+    if bytes_good(r, n) {
+        return Judged::Fine;
+    }
+    Judged::Bad(12, 0)
+}
+
+// Refusal 13.
+pub fn shrinking_judged(j: Judged, shrinking: bool) -> Judged
+    ensures { λ z. ⌜ z ≡ after j (need 13 (not shrinking)) ⌝ }
+{
+    if is_bad(j) {
+        return j;
+    }
+    if shrinking {
+        return Judged::Bad(13, 0);
+    }
+    Judged::Fine
 }

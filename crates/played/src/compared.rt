@@ -11,12 +11,13 @@ pub fn whole(b: &[u8]) -> bool {
     let words = layout::answer_at(b) + 10 + 4 * layout::told(b);
     let passes = layout::count(b, words, 16);
     (8 * (words + 1 + 4 * passes) == b.len())
-        & (layout::word(b, 1) <= 3)
+        & (layout::word(b, 1) <= 4)
         & (layout::word(b, 9) <= 2097152)
         & (layout::word(b, 10) <= 1024)
         & (layout::word(b, 11) <= 1024)
         & (layout::word(b, 12) <= 1024)
         & (layout::word(b, 13) <= 1024)
+        & ((layout::word(b, 1) < 4) | (layout::word(b, layout::retired_at(b)) <= 1024))
         & (layout::word(b, 14) <= 1024)
         & (layout::word(b, 15) <= 1024)
         & (layout::word(b, 16) <= 4096)
@@ -86,11 +87,11 @@ pub fn differing(
     k: u64,
     b: &[u8],
     o: Outcome,
-    cr: &[f64],
-    h: &[f64],
-    f: &[f64],
-    u: &[u64],
-    y: &[u8],
+    cr: &[f64; 1024],
+    h: &[f64; 1024],
+    f: &[f64; 4096],
+    u: &[u64; 2048],
+    y: &[u8; 1024],
 ) -> u64 {
     let a = hosted::words_of(o);
     let at = layout::answer_at(b);

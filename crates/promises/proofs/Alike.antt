@@ -20,7 +20,7 @@ use Rattle.solver.specs.declared.Given.{Given}
 use Rattle.promises.specs.Fit.{Fit, startFrom, runOf, rOf}
 use Rattle.promises.proofs.Entries.{general-served, c-served, nu-served, one-class-served}
 use Rattle.promises.proofs.Home.{finished-at, served-lists, served-at}
-use Rattle.promises.proofs.Still.{trained-still}
+use Rattle.classification.proofs.Still.{trained-still}
 use Rattle.promises.proofs.Travel.{Served}
 
 module _ {k : Fit} {m : List ℕ} {budget : ℕ} {d : Lent} {o : Whole} (v : Served k m budget d o) (x : Answer) (e : o .out ≡ Accepted x) (off : k .given .shrinking ≡ false) where

@@ -10,10 +10,11 @@ use lib.Ieee.Bits.{ofBits-fits}
 use lib.ListN.{getD}
 use Rattle.alpha.specs.Weight as Weight
 use Rattle.answer.specs.Lent.{Lent, Whole}
+use Rattle.boxed.specs.Delta.{deltaAt}
 use Rattle.boxed.specs.Range.{Ceiling, In, Entry, Divides}
 use Rattle.boxrun.specs.Boxed as Boxed
 use Rattle.boxrun.specs.Boxed.{OneCeiling}
-use Rattle.boxrun.proofs.Run.{box-weights, box-trained, no-nan-runs}
+use Rattle.boxrun.proofs.Run.{box-weights, box-trained, no-nan-chosen, no-nan-runs}
 use Rattle.extreme.specs.declared.Choice.the-variants.{Pair}
 use Rattle.fits.proofs.Loaded.{weight-loaded, ceiling-loaded, label-loaded}
 use Rattle.judge.specs.Judge.{first, isCeiling, entryGood, labelGood}
@@ -25,13 +26,14 @@ use Rattle.rounding.proofs.Order.{lt-real, lt→le, le-real}
 use Rattle.readings.specs.Order.{weightIn}
 use Rattle.readings.proofs.Order.{home-at}
 use Rattle.solver.specs.End.{trained}
+use Rattle.solver.specs.Pass.{chosen}
 use Rattle.solver.specs.Run.{problemOf}
 use Rattle.solver.specs.declared.Given.{Given}
 use Rattle.travel.specs.Home.{lastLeft}
 use Rattle.travel.proofs.Home.{trained-home}
 use Rattle.travel.proofs.Travel.{travelled-trained}
 use Rattle.wire.specs.Wire.{floatAt, digits}
-use Rattle.promises.specs.Fit.{Fit, startFrom, weightAfter, pairAfter, deltaAfter, stepsTaken}
+use Rattle.promises.specs.Fit.{Fit, startFrom, after, weightAfter, pairAfter, deltaAfter, stepsTaken}
 use Rattle.promises.proofs.Travel.{Served, ready-start, fresh-start}
 
 -- ---- what the verdict says of entries, labels and ceilings
@@ -88,6 +90,10 @@ module _ {k : Fit} {m : List ℕ} {budget : ℕ} {d : Lent} {o : Whole} (v : Ser
   -- where the next pass steps with i and j
   pub served-no-nan : (t i j : ℕ) → pairAfter k m d t ≡ Pair i j → Real (deltaAfter k m d t i j)
   served-no-nan = no-nan-runs g m one-ceiling (startFrom k m d) lent
+
+  -- the pair that is chosen after t passes
+  pub served-chosen : (t i j : ℕ) → chosen g m (after k m d t) ≡ Pair i j → Real (deltaAt (problemOf g m) (after k m d t .state) (g .floor) i j)
+  served-chosen = no-nan-chosen g m one-ceiling (startFrom k m d) lent
 
   -- and at home, before sign and scaling: the weight of each sample
   pub served-home-box : (s : ℕ) → s < g .n → In b (lastLeft (stepsTaken k m d budget) s (getD (k .weights) s nan))

@@ -87,7 +87,7 @@ same-cost : (c : Float) (b : Bool) → cond b c c ≡ c
 same-cost c true = refl
 same-cost c false = refl
 
-nought-in : (b : Float) → Ceiling b → In b Weight.zero
+pub nought-in : (b : Float) → Ceiling b → In b Weight.zero
 unfolding ofBits isNan
 nought-in b h = weight-in b Weight.zero (ofBits-fits binary64 0) (le-refl Weight.zero tt) (h .low)
 

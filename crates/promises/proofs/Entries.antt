@@ -18,7 +18,7 @@ use Rattle.judge.specs.declared.Judged.the-variants.{Fine}
 use Rattle.judge.proofs.Lengths.{room-of}
 use Rattle.travel.specs.Travel.{Travelled}
 use Rattle.promises.specs.Fit.{Fit, generalFit, cFit, nuFit, oneClassFit, after, ownWeight}
-use Rattle.promises.proofs.Accepts.{entered-in, decided-in}
+use Rattle.classification.proofs.Accepts.{entered-in, decided-in}
 use Rattle.promises.proofs.Home.{served-home}
 use Rattle.promises.proofs.Travel.{Served, served-travels}
 

@@ -24,7 +24,7 @@ use Rattle.solver.specs.declared.Given.{Given}
 use Rattle.travel.specs.Home.{lastLeft}
 use Rattle.travel.proofs.Home.{trained-home}
 use Rattle.promises.specs.Fit.{Fit, startFrom, runOf, stepsTaken, rOf, ownWeight}
-use Rattle.promises.proofs.Accepts.{refused-apart}
+use Rattle.classification.proofs.Accepts.{refused-apart}
 use Rattle.promises.proofs.Travel.{Served, ready-start, fresh-start}
 
 -- ---- a finished list

@@ -1,10 +1,11 @@
-pub mod Accepts
 pub mod Travel
 pub mod Home
 pub mod Box
 pub mod Entries
 pub mod Starts
 pub mod Boxes
-pub mod Still
 pub mod Numbers
 pub mod Alike
+pub mod Retired
+pub mod RetiredBox
+pub mod RetiredEntry

@@ -33,8 +33,12 @@ alphasAt b = ceilingsAt b + countOf b 11 1024
 unfoldable pub linearAt : List ℕ → ℕ
 linearAt b = alphasAt b + countOf b 12 1024
 
+-- the word that counts the retired bytes, which follow it; entry 4 alone has them
+unfoldable pub retiredAt : List ℕ → ℕ
+retiredAt b = linearAt b + countOf b 13 1024
+
 unfoldable pub answerAt : List ℕ → ℕ
-answerAt b = linearAt b + countOf b 13 1024
+answerAt b = cond (eqb (wordOf b 1) 4) (retiredAt b + 1 + (countOf b (retiredAt b) 1024 + 7) / 8) (retiredAt b)
 
 -- how many places each reading has in the record
 unfoldable pub toldOf : List ℕ → ℕ

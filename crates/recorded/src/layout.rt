@@ -3,7 +3,7 @@ ghost use mathlib.Core.Path.{_≡_};
 ghost use Prim.Native.Nat.{_+_, _≤_, _*_};
 ghost use lib.ListN.{length, take};
 ghost use lib.Ieee.{binary64, ofBits};
-ghost use Rattle.recorded.specs.Record.{wordOf, countOf, storedOf, labelsAt, ceilingsAt, alphasAt, linearAt, answerAt, toldOf, usedOf, partOf, noFloats, floatsTo, signedByte, expandedTo};
+ghost use Rattle.recorded.specs.Record.{wordOf, countOf, storedOf, labelsAt, ceilingsAt, alphasAt, linearAt, retiredAt, answerAt, toldOf, usedOf, partOf, noFloats, floatsTo, signedByte, expandedTo};
 
 pub fn word(b: &[u8], k: usize) -> u64
     ensures { λ r. ⌜ r ≡ wordOf (now (b .entry)) k ⌝ }
@@ -58,10 +58,23 @@ pub fn linear_at(b: &[u8]) -> usize
     alphas_at(b) + count(b, 12, 1024)
 }
 
-pub fn answer_at(b: &[u8]) -> usize
-    ensures { λ r. ⌜ (r ≡ answerAt (now (b .entry))) × (r ≤ 265472) ⌝ }
+// The word that counts the retired bytes, which follow it. Entry 4 alone has them.
+pub fn retired_at(b: &[u8]) -> usize
+    ensures { λ r. ⌜ (r ≡ retiredAt (now (b .entry))) × (r ≤ 265472) ⌝ }
 {
     linear_at(b) + count(b, 13, 1024)
+}
+
+pub fn answer_at(b: &[u8]) -> usize
+    ensures { λ r. ⌜ (r ≡ answerAt (now (b .entry))) × (r ≤ 265601) ⌝ }
+{
+    let at = retired_at(b);
+    let n = count(b, at, 1024);
+    if word(b, 1) == 4 {
+        at + 1 + (n + 7) / 8
+    } else {
+        at
+    }
 }
 
 // How many places each reading has in the record.

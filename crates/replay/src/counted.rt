@@ -17,29 +17,29 @@ fn one_if(b: bool) -> u64 {
 
 // Records that couldn't be read, and whether anything follows the last.
 pub fn unread(records: u64, left: u64, t: &mut [u64]) {
-    add(t, 22, records);
-    add(t, 23, left);
+    add(t, 25, records);
+    add(t, 26, left);
 }
 
 pub fn skipped(k: u64, t: &mut [u64]) {
     io::write_all(1, b"record ");
     io::print_decimal(1, k);
     io::write_all(1, b" is skipped\n");
-    add(t, 21, 1);
+    add(t, 24, 1);
 }
 
 fn count_call(b: &[u8], t: &mut [u64]) {
     add(t, 0, 1);
-    add(t, 1 + layout::count(b, 1, 3), 1);
-    add(t, 5, layout::word(b, 3) / 2 % 2);
+    add(t, 1 + layout::count(b, 1, 4), 1);
+    add(t, 6, layout::word(b, 3) / 2 % 2);
 }
 
 fn count_answer(b: &[u8], at: usize, t: &mut [u64])
-    requires { ⌜ at ≤ 265472 ⌝ }
+    requires { ⌜ at ≤ 265601 ⌝ }
 {
-    add(t, 6 + layout::count(b, at, 11), 1);
-    add(t, 18, layout::word(b, at + 6));
-    add(t, 20, layout::word(b, at + 9));
+    add(t, 7 + layout::count(b, at, 13), 1);
+    add(t, 21, layout::word(b, at + 6));
+    add(t, 23, layout::word(b, at + 9));
 }
 
 // A record that was played, of which d things differ.
@@ -48,10 +48,10 @@ pub fn count(b: &[u8], d: u64, t: &mut [u64]) {
     count_answer(b, layout::answer_at(b), t);
     add(
         t,
-        19,
+        22,
         one_if(!agree::twice(b, layout::answer_at(b) + 10, layout::told(b))),
     );
-    add(t, 24, one_if(d > 0));
+    add(t, 27, one_if(d > 0));
 }
 
 fn line(name: &[u8], n: u64) {
@@ -73,27 +73,27 @@ fn table(names: &[u8], t: &[u64], from: usize, n: usize)
 
 pub fn report(t: &[u64; 32]) {
     table(
-        b"records         general         C               nu              one-class       shrinking       accepted        ",
+        b"records         general         C               nu              one-class       retired         shrinking       accepted        ",
         t,
         0,
-        7,
+        8,
     );
     table(
         b"refused 1       refused 2       refused 3       refused 4       refused 5       refused 6       ",
         t,
-        7,
+        8,
         6,
     );
     table(
-        b"refused 7       refused 8       refused 9       refused 10      refused 11      ",
+        b"refused 7       refused 8       refused 9       refused 10      refused 11      refused 12      refused 13      ",
         t,
-        13,
-        5,
+        14,
+        7,
     );
     table(
         b"iterations      unlike readings unlike zeros    skipped         not read        left over       differ          ",
         t,
-        18,
+        21,
         7,
     );
 }

@@ -1,4 +1,4 @@
-// Plays every record of the oracle's answers through the four entries, and prints how many there are and how many differ.
+// Plays every record of the oracle's answers through its entry, and prints how many there are and how many differ.
 mod counted;
 
 ghost use mathlib.Core.Path.{_≡_};

@@ -5,6 +5,7 @@ ghost use lib.ListN.{length};
 ghost use Rattle.classification.specs.Entries.{generalSized, fitCSized, fitNuSized, fitOneClassSized};
 ghost use Rattle.hosted.specs.Hosted.{floatsOf, room, Handed, handed, delivered};
 ghost use Rattle.judge.specs.Sizes.{Room};
+ghost use Rattle.retired.specs.Entry.{retiredSized};
 
 fn general_roomed(
     n: usize,
@@ -83,6 +84,97 @@ pub fn general(
         &dc,
         &da,
         &dp,
+        nurule,
+        eps,
+        shrinking,
+        budget,
+        cr,
+        h,
+        answer,
+    )
+}
+
+fn retired_roomed(
+    n: usize,
+    m: &[u8],
+    l: &[u8],
+    c: &[f64],
+    a: &[f64],
+    p: &[f64],
+    r: &[u8],
+    nurule: bool,
+    eps: f64,
+    shrinking: bool,
+    budget: u64,
+    cr: &mut [u8],
+    h: &mut [u8],
+    answer: &mut [u8],
+) -> u64
+    requires { ⌜ (Room n (length (now m)) 512 512 3584 1024 512) × (n ≤ length (now l)) × (n ≤ length (now c)) × (n ≤ length (now a)) × (n ≤ length (now p)) × (n ≤ length (now r)) × (8 * n ≤ length (now cr)) × (8 * n ≤ length (now h)) × (72 ≤ length (now answer)) ⌝ }
+    ensures { λ k. ⌜ _≡_ {A = Handed} (handed k (now (cr .exit)) (now (h .exit)) (now (answer .exit)))
+        (delivered n (retiredSized n (now (m .entry)) (now (l .entry)) (now (c .entry)) (now (a .entry)) (now (p .entry)) (now (r .entry)) nurule eps shrinking budget room) (now (cr .entry)) (now (h .entry)) (now (answer .entry))) ⌝ }
+{
+    let mut c2 = hosted::places();
+    let mut h2 = hosted::places();
+    let mut f = hosted::floats();
+    let mut u = hosted::numbers();
+    let mut y = hosted::bytes();
+    let o = fit_retired::sized(
+        n,
+        m,
+        l,
+        c,
+        a,
+        p,
+        r,
+        nurule,
+        eps,
+        shrinking,
+        budget,
+        &mut c2,
+        &mut h2,
+        &mut f,
+        &mut u,
+        &mut y,
+    );
+    hosted::deliver(cr, h, answer, &c2, &h2, n, o)
+}
+
+// The same with retired bytes r.
+pub fn retired(
+    n: usize,
+    m: &[u8],
+    l: &[u8],
+    c: &[u8],
+    a: &[u8],
+    p: &[u8],
+    r: &[u8],
+    nurule: bool,
+    eps: f64,
+    shrinking: bool,
+    budget: u64,
+    cr: &mut [u8],
+    h: &mut [u8],
+    answer: &mut [u8],
+) -> u64
+    requires { ⌜ (Room n (length (now m)) 512 512 3584 1024 512) × (n ≤ length (now l)) × (8 * n ≤ length (now c)) × (8 * n ≤ length (now a)) × (8 * n ≤ length (now p)) × (n ≤ length (now r)) × (8 * n ≤ length (now cr)) × (8 * n ≤ length (now h)) × (72 ≤ length (now answer)) ⌝ }
+    ensures { λ k. ⌜ _≡_ {A = Handed} (handed k (now (cr .exit)) (now (h .exit)) (now (answer .exit)))
+        (delivered n (retiredSized n (now (m .entry)) (now (l .entry)) (floatsOf (now (c .entry)) n) (floatsOf (now (a .entry)) n) (floatsOf (now (p .entry)) n) (now (r .entry)) nurule eps shrinking budget room) (now (cr .entry)) (now (h .entry)) (now (answer .entry))) ⌝ }
+{
+    let mut ceilings = hosted::places();
+    let mut alphas = hosted::places();
+    let mut terms = hosted::places();
+    hosted::decode(&mut ceilings, c, n);
+    hosted::decode(&mut alphas, a, n);
+    hosted::decode(&mut terms, p, n);
+    retired_roomed(
+        n,
+        m,
+        l,
+        &ceilings,
+        &alphas,
+        &terms,
+        r,
         nurule,
         eps,
         shrinking,

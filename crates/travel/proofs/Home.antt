@@ -35,7 +35,7 @@ use Rattle.readings.proofs.Order.{home-at}
 use Rattle.travel.proofs.Rearranged.{rearranged-none, rearranged-moved, perm-rearranged}
 use Rattle.travel.proofs.Travel.{fresh-travelled}
 
-last-more : (es fs : List Step) (s : ℕ) (x : Float) → lastLeft (es ++ fs) s x ≡ lastLeft fs s (lastLeft es s x)
+pub last-more : (es fs : List Step) (s : ℕ) (x : Float) → lastLeft (es ++ fs) s x ≡ lastLeft fs s (lastLeft es s x)
 unfolding lastLeft
 last-more [] fs s x = refl
 last-more (e ∷ es) fs s x = last-more es fs s (leftBy e s x)
@@ -108,7 +108,7 @@ module _ (g : Given) (m : List ℕ) (b : List Float) where
   p = problemOf g m
 
   -- one update from s leaves v: the two samples have what the step records, the others what they had
-  told-step : (x : ℕ → Float) (s : State) (v : Full) (i j a : ℕ) → i < a → j < a → a ≤ g .n → v .state ≡ updatedState p b (g .floor) s i j a
+  pub told-step : (x : ℕ → Float) (s : State) (v : Full) (i j a : ℕ) → i < a → j < a → a ≤ g .n → v .state ≡ updatedState p b (g .floor) s i j a
       → Told p x s → Told p (λ q. leftBy (stepAt g m v i j) q (x q)) (v .state)
   unfolding leftBy
   told-step x s v i j a I J A e w = record {

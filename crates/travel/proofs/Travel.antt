@@ -70,7 +70,7 @@ module _ (p : Problem) (labels : ℕ → ℕ) (terms : ℕ → Float) where
     pub ready : Ready p s
     pub travelled : Travelled (p .n) labels terms s
 
-  settled-stays : (s : State) (f : List Float) → Stays (p .n) s (over s f) → Settled s → Settled (over s f)
+  pub settled-stays : (s : State) (f : List Float) → Stays (p .n) s (over s f) → Settled s → Settled (over s f)
   settled-stays s f e w =
       record {
         ready = ready-floats (w .ready) f (e .long);

@@ -1,10 +1,10 @@
-// Refusal 3, the scan of the matrix, and each entry's verdict: the lowest number of 3 to 10 that applies.
+// Refusal 3, the scan of the matrix, and each entry's verdict: the lowest number that applies.
 ghost use mathlib.Core.Bool.{true};
 ghost use mathlib.Core.Path.{_≡_};
 ghost use Prim.Native.Nat.{ℕ, _+_, _*_, _≤_, _<_};
 ghost use lib.ListN.{length};
 ghost use Rattle.wire.specs.Wire.{digits};
-ghost use Rattle.judge.specs.Judge.{first, inLimit, entryGood, generalJudged, cJudged, nuJudged, oneClassJudged};
+ghost use Rattle.judge.specs.Judge.{first, inLimit, entryGood, generalJudged, retiredJudged, cJudged, nuJudged, oneClassJudged};
 use alpha::Alpha;
 use judge::Judged;
 
@@ -99,6 +99,26 @@ pub fn general_judged(
     let j7 = judge::linear_judged(j6, p, n);
     let j8 = judge::eps_judged(j7, eps);
     judge::budget_judged(j8, budget)
+}
+
+pub fn retired_judged(
+    n: usize,
+    m: &[u8],
+    l: &[u8],
+    c: &[f64],
+    a: &[f64],
+    p: &[f64],
+    r: &[u8],
+    eps: f64,
+    shrinking: bool,
+    budget: u64,
+) -> Judged
+    requires { ⌜ (n ≤ 512) × (8 * (n * n) ≤ length (now m)) × (n ≤ length (now l)) × (n ≤ length (now c)) × (n ≤ length (now a)) × (n ≤ length (now p)) × (n ≤ length (now r)) ⌝ }
+    ensures { λ z. ⌜ z ≡ retiredJudged n (now (m .entry)) (now (l .entry)) (now (c .entry)) (now (a .entry)) (now (p .entry)) (now (r .entry)) eps shrinking budget ⌝ }
+{
+    let j10 = general_judged(n, m, l, c, a, p, eps, budget);
+    let j12 = judge::retired_judged(j10, r, n);
+    judge::shrinking_judged(j12, shrinking)
 }
 
 pub fn c_judged(n: usize, m: &[u8], l: &[u8], cpos: f64, cneg: f64, eps: f64, budget: u64) -> Judged

@@ -1,7 +1,9 @@
 //! The C functions, and nothing else that is unsafe.
 #![allow(unsafe_code)]
 
-use crate::functions::{altuliscia_c, altuliscia_general, altuliscia_nu, altuliscia_one_class};
+use crate::functions::{
+    altuliscia_c, altuliscia_general, altuliscia_nu, altuliscia_one_class, altuliscia_retired,
+};
 use crate::{Answer, ExitReason, General, OneClass, Options, Problem, Refusal, MOST_SAMPLES};
 
 /// The bytes of an answer.
@@ -68,6 +70,21 @@ pub(crate) fn general(g: &General, o: &Options, room: &mut Room) -> u64 {
         altuliscia_general(l.len(), m.as_ptr().cast(), bytes(m), l.as_ptr().cast(), l.len(),
             g.ceilings.as_ptr().cast(), bytes(g.ceilings), g.alphas.as_ptr().cast(), bytes(g.alphas),
             g.linear.as_ptr().cast(), bytes(g.linear), u8::from(g.nu_rule), o.eps.to_bits(), u8::from(o.shrinking), o.budget,
+            c.as_mut_ptr().cast(), lc, h.as_mut_ptr().cast(), lh, a.as_mut_ptr(), ANSWER)
+    }
+}
+
+/// The tuning is empty: this library knows no word of it.
+#[rustfmt::skip]
+pub(crate) fn retired(g: &General, r: &[bool], o: &Options, room: &mut Room) -> u64 {
+    let (m, l) = (g.problem.matrix, g.problem.labels);
+    let (lc, lh) = (bytes(&room.crate_reading), bytes(&room.home));
+    let (c, h, a) = (&mut room.crate_reading, &mut room.home, &mut room.answer);
+    unsafe {
+        altuliscia_retired(l.len(), m.as_ptr().cast(), bytes(m), l.as_ptr().cast(), l.len(),
+            g.ceilings.as_ptr().cast(), bytes(g.ceilings), g.alphas.as_ptr().cast(), bytes(g.alphas),
+            g.linear.as_ptr().cast(), bytes(g.linear), r.as_ptr().cast(), r.len(),
+            u8::from(g.nu_rule), o.eps.to_bits(), u8::from(o.shrinking), o.budget, std::ptr::null(), 0,
             c.as_mut_ptr().cast(), lc, h.as_mut_ptr().cast(), lh, a.as_mut_ptr(), ANSWER)
     }
 }
@@ -172,5 +189,43 @@ mod tests {
             (left.crate_reading, left.home),
             (vec![7.0; 2], vec![7.0; 2])
         );
+    }
+
+    /// A raw call of two samples with any retired bytes, a tuning of so many bytes, shrinking and a budget. Hands back the result, and
+    /// number and index as the answer has them.
+    #[rustfmt::skip]
+    fn raw(marks: &[u8], tuning: usize, shrinking: u8, budget: u64) -> (u64, u64, u64) {
+        let mut left = room();
+        let (matrix, labels, ceilings, alphas, linear) = ([1.0, 0.0, 0.0, 1.0], [1_u8, 0], [1.0; 2], [0.0; 2], [-1.0; 2]);
+        let words = vec![0_u8; tuning];
+        let result = unsafe {
+            altuliscia_retired(2, matrix.as_ptr().cast(), bytes(&matrix), labels.as_ptr(), labels.len(),
+                ceilings.as_ptr().cast(), bytes(&ceilings), alphas.as_ptr().cast(), bytes(&alphas),
+                linear.as_ptr().cast(), bytes(&linear), marks.as_ptr(), marks.len(), 0, 0, shrinking, budget,
+                words.as_ptr(), words.len(), left.crate_reading.as_mut_ptr().cast(), 16,
+                left.home.as_mut_ptr().cast(), 16, left.answer.as_mut_ptr(), ANSWER)
+        };
+        if result != 0 {
+            assert_eq!((&left.crate_reading, &left.home), (&vec![7.0; 2], &vec![7.0; 2]));
+            assert_eq!(left.answer[16..], [0; ANSWER - 16]);
+        }
+        (result, left.word(0), left.word(1))
+    }
+
+    /// What no list of `bool` and no call of this crate can lead to.
+    #[test]
+    fn retired_bytes_and_tuning_are_judged() {
+        assert_eq!(raw(&[0, 1], 0, 0, 1), (0, 0, 0));
+        for marks in [[2, 0], [0, 2], [1, 255]] {
+            for shrinking in [0, 1] {
+                assert_eq!(raw(&marks, 0, shrinking, 1), (12, 12, 0));
+            }
+            assert_eq!(raw(&marks, 0, 1, 0), (10, 10, 0));
+            assert_eq!(raw(&marks, 8, 1, 0), (2, 2, 0));
+        }
+        for tuning in [1, 7, 8, 16] {
+            assert_eq!(raw(&[0, 1], tuning, 0, 1), (2, 2, 0));
+        }
+        assert_eq!(raw(&[0, 1], 0, 1, 1), (13, 13, 0));
     }
 }

@@ -6,6 +6,11 @@ extern "C" {
         ceilings: *const u8, ceilings_len: usize, alphas: *const u8, alphas_len: usize, linear: *const u8, linear_len: usize,
         nu_rule: u8, eps: u64, shrinking: u8, budget: u64, crate_reading: *mut u8, crate_reading_len: usize,
         home: *mut u8, home_len: usize, answer: *mut u8, answer_len: usize) -> u64;
+    pub fn altuliscia_retired(n: usize, matrix: *const u8, matrix_len: usize, labels: *const u8, labels_len: usize,
+        ceilings: *const u8, ceilings_len: usize, alphas: *const u8, alphas_len: usize, linear: *const u8, linear_len: usize,
+        retired: *const u8, retired_len: usize, nu_rule: u8, eps: u64, shrinking: u8, budget: u64,
+        tuning: *const u8, tuning_len: usize, crate_reading: *mut u8, crate_reading_len: usize,
+        home: *mut u8, home_len: usize, answer: *mut u8, answer_len: usize) -> u64;
     pub fn altuliscia_c(n: usize, matrix: *const u8, matrix_len: usize, labels: *const u8, labels_len: usize,
         cpos: u64, cneg: u64, eps: u64, shrinking: u8, budget: u64, crate_reading: *mut u8, crate_reading_len: usize,
         home: *mut u8, home_len: usize, answer: *mut u8, answer_len: usize) -> u64;

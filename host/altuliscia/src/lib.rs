@@ -1,4 +1,4 @@
-//! The proved trainer of a sorter, for Rust: the four functions of `include/altuliscia.h` with types.
+//! The proved trainer of a sorter, for Rust: the five functions of `include/altuliscia.h` with types.
 //!
 //! A problem is a kernel matrix with labels; a fit trains it and hands back an [`Answer`] or a [`Refusal`]. Nothing here panics,
 //! whatever is handed in. Calls keep no state, so they may be made from several threads at once.
@@ -30,6 +30,9 @@
 //! assert_eq!(refusal, Refusal::Kernel { index: 2 });
 //! assert_eq!((refusal.number(), refusal.index()), (3, 2));
 //! ```
+//!
+//! A sample that is withdrawn is retired, never taken out, so every other keeps its number: [`fit_c_retired`] and [`fit_retired`] train
+//! as if it weren't there, and its weight is 0.
 #![deny(missing_docs, unsafe_code)]
 
 mod call;
@@ -200,4 +203,125 @@ pub fn fit_one_class(samples: &OneClass, nu: f64, options: &Options) -> Result<A
 pub fn fit_general(general: &General, options: &Options) -> Result<Answer, Refusal> {
     let n = general.problem.labels.len();
     call::with_room(n, |room| call::general(general, options, room))
+}
+
+/// Trains as [`fit_general`] does, but as if the samples whose place in `retired` is true weren't there: every sample keeps its number,
+/// and a retired one has weight 0 in both lists. What is given for it is judged as any other's, and has no say in the answer.
+///
+/// `retired` is as long as the labels. Shrinking must be off, else it is [`Refusal::RetiredShrinking`]; so both lists are the same.
+/// Where every sample is retired, rho is NaN.
+///
+/// ```
+/// use altuliscia::{fit_retired, General, Options, Problem};
+///
+/// let general = General {
+///     problem: Problem {
+///         matrix: &[1.0, 0.0, 7.0, 0.0, 1.0, 7.0, 7.0, 7.0, 7.0],
+///         labels: &[true, false, false],
+///     },
+///     ceilings: &[1.0, 2.0, 2.0],
+///     alphas: &[0.0, 0.0, 2.0],
+///     linear: &[-1.0, -1.0, 5.0],
+///     nu_rule: false,
+/// };
+/// let answer = fit_retired(&general, &[false, false, true], &Options::default())?;
+/// assert_eq!(answer.home, [1.0, 1.0, 0.0]);
+/// # Ok::<(), altuliscia::Refusal>(())
+/// ```
+pub fn fit_retired(
+    general: &General,
+    retired: &[bool],
+    options: &Options,
+) -> Result<Answer, Refusal> {
+    let n = general.problem.labels.len();
+    call::with_room(n, |room| call::retired(general, retired, options, room))
+}
+
+/// Trains as [`fit_c`] does, but as if the samples whose place in `retired` is true weren't there, as [`fit_retired`] has it. With
+/// nobody retired it answers what [`fit_c`] does with shrinking off.
+///
+/// ```
+/// use altuliscia::{fit_c_retired, Options, Problem, Refusal};
+///
+/// let problem = Problem {
+///     matrix: &[1.0, 7.0, 0.0, 7.0, 7.0, 7.0, 0.0, 7.0, 1.0],
+///     labels: &[true, false, false],
+/// };
+/// let withdrawn = [false, true, false];
+/// let answer = fit_c_retired(&problem, 1.0, 1.0, &withdrawn, &Options::default())?;
+/// assert_eq!(answer.home, [1.0, 0.0, -1.0]);
+///
+/// let shrinking = Options { shrinking: true, ..Options::default() };
+/// let refused = fit_c_retired(&problem, 1.0, 1.0, &withdrawn, &shrinking);
+/// assert_eq!(refused, Err(Refusal::RetiredShrinking));
+/// # Ok::<(), Refusal>(())
+/// ```
+pub fn fit_c_retired(
+    problem: &Problem,
+    cpos: f64,
+    cneg: f64,
+    retired: &[bool],
+    options: &Options,
+) -> Result<Answer, Refusal> {
+    let places = problem.labels.len().min(MOST_SAMPLES);
+    let refused = costs_refused(cpos, cneg);
+    // Where a cost is refused, every ceiling is bad: then it is the library that says so, or what comes before it.
+    let ceiling = |positive: &bool| match (refused, positive) {
+        (Some(_), _) => f64::NAN,
+        (None, true) => cpos,
+        (None, false) => cneg,
+    };
+    let ceilings: Vec<f64> = problem.labels[..places].iter().map(ceiling).collect();
+    let general = General {
+        problem: *problem,
+        ceilings: &ceilings,
+        alphas: &vec![0.0; places],
+        linear: &vec![-1.0; places],
+        nu_rule: false,
+    };
+    let mut answer = fit_retired(&general, retired, options).map_err(|r| match (r, refused) {
+        (Refusal::Ceiling { .. }, Some(cost)) => cost,
+        _ => r,
+    })?;
+    for list in [&mut answer.crate_reading, &mut answer.home] {
+        sign(list, problem.labels, retired);
+    }
+    Ok(answer)
+}
+
+/// The refusal that [`fit_c`] has for a cost, whether a sample has its label or not. The problem that is handed over never runs.
+fn costs_refused(cpos: f64, cneg: f64) -> Option<Refusal> {
+    let one = Problem {
+        matrix: &[0.0],
+        labels: &[true],
+    };
+    let never = Options {
+        budget: 0,
+        ..Options::default()
+    };
+    let refusal = fit_c(&one, cpos, cneg, &never).err();
+    refusal.filter(|r| matches!(r, Refusal::Ceiling { .. }))
+}
+
+/// Negates the weights of negative samples. That of a retired one stays 0, and a NaN has no sign.
+fn sign(weights: &mut [f64], labels: &[bool], retired: &[bool]) {
+    for ((weight, positive), retired) in weights.iter_mut().zip(labels).zip(retired) {
+        if !positive && !retired && !weight.is_nan() {
+            *weight = -*weight;
+        }
+    }
+}
+
+#[cfg(test)]
+mod tests {
+    use super::*;
+
+    #[test]
+    fn only_weights_of_negative_samples_that_stand_are_negated() {
+        let mut weights = [1.5, 1.5, 0.0, 0.0, f64::NAN];
+        let labels = [true, false, false, false, false];
+        sign(&mut weights, &labels, &[false, false, false, true, false]);
+        let signed = [1.5, -1.5, -0.0, 0.0, f64::NAN];
+        assert_eq!(weights.map(f64::to_bits), signed.map(f64::to_bits));
+    }
 }

@@ -21,7 +21,7 @@ pub enum Refusal {
     },
     /// 5: a ceiling.
     Ceiling {
-        /// Where the first one stands; in [`crate::fit_c`] 0 is `cpos` and 1 is `cneg`.
+        /// Where the first one stands; in [`crate::fit_c`] and [`crate::fit_c_retired`] 0 is `cpos` and 1 is `cneg`.
         index: u64,
     },
     /// 6: a start alpha.
@@ -42,6 +42,10 @@ pub enum Refusal {
     Budget,
     /// 11: more samples than were active would have been put aside.
     ShrunkAway,
+    /// 12: a retired byte. Lists of `bool` never lead to it.
+    RetiredByte,
+    /// 13: shrinking is on where samples may be retired.
+    RetiredShrinking,
     /// A number that this crate doesn't know.
     Other {
         /// The refusal's number.
@@ -65,6 +69,8 @@ impl Refusal {
             9 => Refusal::Nu,
             10 => Refusal::Budget,
             11 => Refusal::ShrunkAway,
+            12 => Refusal::RetiredByte,
+            13 => Refusal::RetiredShrinking,
             _ => Refusal::Other { number, index },
         }
     }
@@ -83,6 +89,8 @@ impl Refusal {
             Refusal::Nu => 9,
             Refusal::Budget => 10,
             Refusal::ShrunkAway => 11,
+            Refusal::RetiredByte => 12,
+            Refusal::RetiredShrinking => 13,
             Refusal::Other { number, .. } => number,
         }
     }
@@ -105,7 +113,7 @@ impl Refusal {
     pub fn sentence(&self) -> &'static str {
         match self {
             Refusal::Samples => "The number of samples is 0 or above 512: lend 1 to 512 samples.",
-            Refusal::Length => "A list has the wrong length: lend a matrix of 8*n*n bytes, n labels, 8n bytes for each list of doubles, at least 8n bytes for each result list and at least 72 for the answer.",
+            Refusal::Length => "A list has the wrong length: lend a matrix of 8*n*n bytes, n labels, n retired bytes, 8n bytes for each list of doubles, an empty tuning, at least 8n bytes for each result list and at least 72 for the answer.",
             Refusal::Kernel { .. } => "A kernel entry is NaN, infinite or above 2^1000 in magnitude: the index is column*n + row; scale the kernel down or mend that entry.",
             Refusal::Label { .. } => "A label is neither 0 nor 1: the index is its sample; write 1 for positive, 0 for negative.",
             Refusal::Ceiling { .. } => "A ceiling is NaN, not above 0 or above 2^1000: the index is its sample, in the C entry 0 for cpos and 1 for cneg; give a ceiling above 0 and not above 2^1000.",
@@ -115,6 +123,8 @@ impl Refusal {
             Refusal::Nu => "The parameter nu is NaN, not above 0 or above 1: give a number above 0 and not above 1.",
             Refusal::Budget => "The budget is 0 or above 10000000: give 1 to 10000000 passes.",
             Refusal::ShrunkAway => "Shrinking would have taken more samples out than were active: train with shrinking off, which avoids it.",
+            Refusal::RetiredByte => "A retired byte is neither 0 nor 1: write 1 for a retired sample, 0 for any other.",
+            Refusal::RetiredShrinking => "Shrinking is asked for where samples may be retired: train with shrinking off.",
             Refusal::Other { .. } => "This refusal is newer than this crate: look it up in altuliscia.h.",
         }
     }
@@ -162,7 +172,7 @@ mod tests {
     fn sentences_are_the_headers() {
         let header = header();
         let numbers: Vec<u64> = header.iter().map(|(number, _)| *number).collect();
-        assert_eq!(numbers, (1..=11).collect::<Vec<u64>>());
+        assert_eq!(numbers, (1..=13).collect::<Vec<u64>>());
         for (number, sentence) in header {
             assert_eq!(Refusal::new(number, 0).sentence(), sentence);
         }
@@ -170,9 +180,9 @@ mod tests {
 
     #[test]
     fn a_refusal_keeps_its_number_and_index() {
-        for number in (1..=12).chain([u64::MAX]) {
+        for number in (1..=14).chain([u64::MAX]) {
             let refusal = Refusal::new(number, 5);
-            let index = if (3..=7).contains(&number) || number > 11 {
+            let index = if (3..=7).contains(&number) || number > 13 {
                 5
             } else {
                 0

@@ -108,6 +108,25 @@ impl Figures {
             .collect()
     }
 
+    /// The figures as they would be without some of the training captions.
+    pub fn without(&self, retired: &[bool]) -> Figures {
+        let stays = |k: &usize| !retired.get(*k).copied().unwrap_or(false);
+        let kept = |caption: &Caption| {
+            let places = (0..caption.products.len()).filter(stays);
+            Caption {
+                products: places.map(|k| caption.products[k]).collect(),
+                ..*caption
+            }
+        };
+        let train = (0..self.train.len()).filter(stays);
+        Figures {
+            package: self.package.clone(),
+            languages: self.languages.clone(),
+            train: train.map(|k| kept(&self.train[k])).collect(),
+            held: self.held.iter().map(kept).collect(),
+        }
+    }
+
     /// The kernel values of a held-out caption with the first n training captions.
     pub fn values(&self, held: &Caption, n: usize) -> Vec<f64> {
         let pairs = self.train[..n].iter().zip(&held.products);
@@ -167,6 +186,25 @@ held 1
             "1 0:1 1:1.0 2:0.5\n0 0:2 1:0.5 2:1.0\n"
         );
         assert_eq!(figures.libsvm_held(2), "1 0:1 1:1.0 2:1.0\n");
+    }
+
+    #[test]
+    fn without_a_caption_its_products_are_gone() {
+        let figures = Figures::read(SMALL).unwrap();
+        let of = |retired: &[bool]| {
+            let rest = figures.without(retired);
+            (
+                rest.libsvm_train(rest.train.len()),
+                rest.libsvm_held(rest.train.len()),
+            )
+        };
+        let first = ("0 0:1 1:1.0\n".to_string(), "1 0:1 1:1.0\n".to_string());
+        assert_eq!(of(&[true, false]), first);
+        let second = ("1 0:1 1:1.0\n".to_string(), "1 0:1 1:1.0\n".to_string());
+        assert_eq!(of(&[false, true]), second);
+        let all = (figures.libsvm_train(2), figures.libsvm_held(2));
+        assert_eq!((of(&[]), of(&[false, false])), (all.clone(), all));
+        assert!(figures.without(&[true, true]).train.is_empty());
     }
 
     #[test]

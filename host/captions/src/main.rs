@@ -1,5 +1,6 @@
 //! Trains on captions and says how the held-out ones are sorted. HELP has the commands.
 mod picture;
+mod retired;
 mod table;
 
 use altuliscia::{Options, Refusal};
@@ -12,6 +13,8 @@ use std::process::ExitCode;
 const HELP: &str = "captions pair FILE          trains the captions of one file and says how many held-out ones are sorted rightly
 captions table FOLDER       the same for every file of a folder, as the tables of docs/CAPTIONS.md
 captions picture FILE       one training (C 10, eps 1e-7, shrinking on) as an SVG picture: the weights of both lists
+captions retired FILE SERIAL ..
+                            trains with all captions, then with those of these serial numbers retired, and compares
 captions libsvm FILE NAME   writes them as NAME.train and NAME.held, in LIBSVM's format for a precomputed kernel
 
 captions/README.md says what the files are.";
@@ -23,6 +26,9 @@ fn main() -> ExitCode {
         ["pair", path] => read(path).and_then(|figures| pair(&figures)),
         ["table", folder] => table::table(folder),
         ["picture", path] => read(path).and_then(|figures| picture::picture(&figures)),
+        ["retired", path, ref serials @ ..] if !serials.is_empty() => {
+            read(path).and_then(|figures| retired::retired(&figures, serials))
+        }
         ["libsvm", path, name] => read(path).and_then(|figures| libsvm(&figures, name)),
         _ => {
             eprintln!("{}", HELP);

@@ -29,6 +29,8 @@ pub struct Settings {
     pub shrinking: bool,
     /// Labels and what their cost is multiplied by.
     pub weights: Vec<(i32, f64)>,
+    /// The serial numbers of retired samples, or the name of a file that has them.
+    pub retired: Option<String>,
     pub budget: u64,
     pub quiet: bool,
 }
@@ -41,6 +43,7 @@ impl Settings {
         eps: 0.001,
         shrinking: false,
         weights: Vec::new(),
+        retired: None,
         budget: MOST_PASSES,
         quiet: false,
     };
@@ -115,6 +118,9 @@ pub fn parse(words: &[String]) -> Result<Words, Trouble> {
             file => files.push(file.to_string()),
         }
     }
+    if settings.retired.is_some() && settings.fit != Fit::C {
+        return usage("--retired: only -s 0 trains with retired samples".to_string());
+    }
     let most = if command == Command::Train { 2 } else { 1 };
     if files.len() > most {
         return usage(format!("'{}' is one file too many", files[most]));
@@ -145,7 +151,7 @@ fn passes(option: &str, value: &str) -> Result<u64, Trouble> {
 }
 
 fn has_value(option: &str) -> bool {
-    let known = ["-s", "-t", "-c", "-n", "-e", "-h", "--budget"];
+    let known = ["-s", "-t", "-c", "-n", "-e", "-h", "--budget", "--retired"];
     known.contains(&option) || option.starts_with("-w")
 }
 
@@ -173,6 +179,10 @@ fn set(s: &mut Settings, option: &str, value: &str) -> Result<(), Trouble> {
             }
         }
         "--budget" => s.budget = passes(option, value)?,
+        "--retired" if s.retired.is_some() => {
+            return usage("--retired: it is there twice; one list has them all".to_string())
+        }
+        "--retired" => s.retired = Some(value.to_string()),
         _ if option.starts_with("-w") => {
             let label = number(option, &option[2..], "a label, which is a whole number")?;
             s.weights.push((label, float()?));
@@ -212,6 +222,9 @@ mod tests {
         );
         let c = call("train a.txt b.model -c 3");
         assert_eq!((c.model_path().as_str(), c.settings.cost), ("b.model", 3.0));
+        assert_eq!(c.settings.retired, None);
+        let c = call("train --retired 20,31 a.txt");
+        assert_eq!(c.settings.retired.as_deref(), Some("20,31"));
         assert_eq!(call("weights a").command, Command::Weights);
         assert_eq!(call("check a").command, Command::Check);
     }
@@ -260,6 +273,19 @@ mod tests {
             ("train a -b 1", "there is no option '-b'"),
             ("train a --verbose", "there is no option '--verbose'"),
             ("train a -w1", "-w1: its value is missing"),
+            ("train a --retired", "--retired: its value is missing"),
+            (
+                "train a --retired 1 -c 2 --retired 2",
+                "--retired: it is there twice; one list has them all",
+            ),
+            (
+                "train --retired 1 -s 1 a",
+                "--retired: only -s 0 trains with retired samples",
+            ),
+            (
+                "check -s 2 a --retired 1",
+                "--retired: only -s 0 trains with retired samples",
+            ),
         ] {
             match parsed(line) {
                 Err(Trouble::Usage(text)) => assert_eq!(text, told),
@@ -278,7 +304,20 @@ mod tests {
     #[test]
     fn options_that_have_a_value_are_those_that_are_set() {
         for option in [
-            "-s", "-t", "-c", "-n", "-e", "-h", "--budget", "-w1", "-x", "-v", "-b", "-m", "--help",
+            "-s",
+            "-t",
+            "-c",
+            "-n",
+            "-e",
+            "-h",
+            "--budget",
+            "--retired",
+            "-w1",
+            "-x",
+            "-v",
+            "-b",
+            "-m",
+            "--help",
         ] {
             let mut settings = Settings::USUAL;
             let unknown = matches!(set(&mut settings, option, "x"), Err(Trouble::Usage(text)) if text.starts_with("there is no"));

@@ -1,26 +1,37 @@
-//! Everything about a problem that the library refuses, not only the first.
+//! All that is wrong with a problem and its settings, not only the first.
 use crate::arguments::{Fit, Settings};
 use crate::model::double;
 use crate::problem::{Samples, HEAD};
+use crate::Trouble;
 use altuliscia::{Refusal, MOST_PASSES, MOST_SAMPLES};
-
-/// A refusal and where its reason stands.
-#[derive(Clone, Debug, PartialEq)]
-pub struct Fault {
-    pub refusal: Refusal,
-    pub place: String,
-}
 
 /// 2^1000.
 fn limit() -> f64 {
     2.0_f64.powi(1000)
 }
 
-/// Every fault, by number and index. The first is what the library would answer.
-pub fn faults(s: &Samples, settings: &Settings, ceilings: (f64, f64)) -> Vec<Fault> {
+/// Every fault, by the number and index of its refusal, and what is wrong with the list of retired samples where refusal 12 would stand.
+/// Without such a list the first is what the library would answer.
+pub fn faults(
+    s: &Samples,
+    settings: &Settings,
+    ceilings: (f64, f64),
+    listed: Vec<Trouble>,
+) -> Vec<Trouble> {
+    let mut all = given(s, settings, ceilings);
+    all.extend(listed);
+    if settings.retired.is_some() && settings.shrinking {
+        let place = "-h 1 beside --retired (leave -h 1 out)".to_string();
+        all.push(Trouble::Refused(place, Refusal::RetiredShrinking));
+    }
+    all
+}
+
+/// The faults of refusals 1 to 10.
+fn given(s: &Samples, settings: &Settings, ceilings: (f64, f64)) -> Vec<Trouble> {
     let mut all = Vec::new();
     let two = settings.fit != Fit::OneClass;
-    let mut add = |refusal: Refusal, place: String| all.push(Fault { refusal, place });
+    let mut add = |refusal: Refusal, place: String| all.push(Trouble::Refused(place, refusal));
     if s.n == 0 || s.n > MOST_SAMPLES {
         add(Refusal::Samples, format!("{}: {} samples", s.path, s.n));
     }
@@ -102,16 +113,18 @@ fn lengths(s: &Samples) -> String {
 }
 
 /// The faults for a reader, a line each, then how many there are.
-pub fn told(s: &Samples, faults: &[Fault]) -> String {
-    let mut lines: Vec<String> = faults
-        .iter()
-        .map(|f| format!("{}: {}", f.place, f.refusal))
-        .collect();
-    lines.push(match faults.len() {
-        0 => format!("{}: {} samples, no fault", s.path, s.n),
-        1 => format!("{}: {} samples, 1 fault", s.path, s.n),
-        many => format!("{}: {} samples, {} faults", s.path, s.n, many),
-    });
+pub fn told(s: &Samples, faults: &[Trouble]) -> String {
+    let mut lines: Vec<String> = faults.iter().map(Trouble::to_string).collect();
+    let retired = match s.gone() {
+        0 => String::new(),
+        some => format!(", {} of them retired", some),
+    };
+    let count = match faults.len() {
+        0 => "no fault".to_string(),
+        1 => "1 fault".to_string(),
+        many => format!("{} faults", many),
+    };
+    lines.push(format!("{}: {} samples{}, {}", s.path, s.n, retired, count));
     lines.join("\n") + "\n"
 }
 
@@ -145,12 +158,26 @@ mod tests {
         }
     }
 
+    /// A fault that is a refusal: its place, its number and its index.
+    fn refused(fault: &Trouble) -> (&str, u64, u64) {
+        match fault {
+            Trouble::Refused(place, refusal) => (place, refusal.number(), refusal.index()),
+            other => panic!("{}", other),
+        }
+    }
+
+    fn numbers(all: &[Trouble]) -> Vec<(u64, u64)> {
+        let refused = all.iter().map(refused);
+        refused.map(|(_, number, index)| (number, index)).collect()
+    }
+
     fn samples(n: usize, matrix: Vec<f64>, labels: Vec<u8>) -> Samples {
         Samples {
             path: "a".to_string(),
             n,
             matrix,
             serials: (1..=n as u64).collect(),
+            retired: vec![false; n],
             lines: Vec::new(),
             classes: vec![1, 0],
             labels,
@@ -175,14 +202,14 @@ mod tests {
             1.0000000000000002,
         ];
         let mut drawn = Drawn(1);
-        let mut counts = [0; 12];
+        let mut counts = [0; 14];
         for _ in 0..20_000 {
             let n = drawn.below(5) as usize;
             let size = n * n + usize::from(drawn.below(20) == 0);
             let matrix = (0..size).map(|_| drawn.mostly(1.0, &strange)).collect();
-            let s = samples(n, matrix, (0..n).map(|_| drawn.below(2) as u8).collect());
+            let mut s = samples(n, matrix, (0..n).map(|_| drawn.below(2) as u8).collect());
             let c = (drawn.mostly(1.0, &strange), drawn.mostly(2.0, &strange));
-            let t = Settings {
+            let mut t = Settings {
                 fit: [Fit::C, Fit::Nu, Fit::OneClass][drawn.below(3) as usize],
                 nu: drawn.mostly(0.5, &strange),
                 eps: drawn.mostly(0.001, &strange),
@@ -190,20 +217,20 @@ mod tests {
                 budget: [1, 0, 10, 10, 10, 10_000_001][drawn.below(6) as usize],
                 ..Settings::USUAL
             };
-            let all = faults(&s, &t, c);
-            let ours = all.first().map(|f| f.refusal);
+            if t.fit == Fit::C && drawn.below(2) == 0 {
+                t.retired = Some(String::new());
+                s.retired.fill_with(|| drawn.below(2) == 0);
+            }
+            let all = numbers(&faults(&s, &t, c, Vec::new()));
             // What only a run can tell has no fault.
             let theirs = crate::answered(&s, &t, c).err();
             let theirs = theirs.filter(|r| *r != Refusal::ShrunkAway);
-            assert_eq!(ours, theirs, "{:?} {:?} {:?}", s, t, c);
-            let numbers: Vec<(u64, u64)> = all
-                .iter()
-                .map(|f| (f.refusal.number(), f.refusal.index()))
-                .collect();
-            assert!(numbers.windows(2).all(|w| w[0] < w[1]), "{:?}", numbers);
-            counts[ours.map_or(0, |r| r.number()) as usize] += 1;
+            let theirs = theirs.map(|r| (r.number(), r.index()));
+            assert_eq!(all.first(), theirs.as_ref(), "{:?} {:?} {:?}", s, t, c);
+            assert!(all.windows(2).all(|w| w[0] < w[1]), "{:?}", all);
+            counts[theirs.map_or(0, |(number, _)| number) as usize] += 1;
         }
-        for number in [0, 1, 2, 3, 5, 8, 9, 10] {
+        for number in [0, 1, 2, 3, 5, 8, 9, 10, 13] {
             assert!(counts[number] > 20, "{:?}", counts);
         }
     }
@@ -217,12 +244,8 @@ mod tests {
             budget: 0,
             ..Settings::USUAL
         };
-        let found: Vec<(u64, u64)> = faults(&s, &t, (0.0, f64::NAN))
-            .iter()
-            .map(|f| (f.refusal.number(), f.refusal.index()))
-            .collect();
         assert_eq!(
-            found,
+            numbers(&faults(&s, &t, (0.0, f64::NAN), Vec::new())),
             [
                 (3, 0),
                 (3, 3),
@@ -234,12 +257,10 @@ mod tests {
                 (10, 0)
             ]
         );
-        let places: Vec<String> = faults(&s, &t, (1.0, 1.0))
-            .into_iter()
-            .map(|f| f.place)
-            .collect();
+        let all = faults(&s, &t, (1.0, 1.0), Vec::new());
+        let places = all.iter().map(|fault| refused(fault).0);
         assert_eq!(
-            places,
+            places.collect::<Vec<_>>(),
             [
                 "a: byte 16",
                 "a: byte 40",
@@ -262,9 +283,25 @@ mod tests {
                     ..Settings::USUAL
                 },
                 (1.0, 1.0),
+                Vec::new(),
             )
             .len()
         };
         assert_eq!((of(Fit::C), of(Fit::Nu), of(Fit::OneClass)), (1, 1, 0));
+    }
+
+    #[test]
+    fn what_is_wrong_with_the_list_stands_between_10_and_13() {
+        let s = samples(1, vec![1.0], vec![1]);
+        let t = Settings {
+            budget: 0,
+            shrinking: true,
+            retired: Some("9".to_string()),
+            ..Settings::USUAL
+        };
+        let listed = vec![Trouble::Usage("a list".to_string())];
+        let all = faults(&s, &t, (1.0, 1.0), listed);
+        let statuses: Vec<u8> = all.iter().map(Trouble::status).collect();
+        assert_eq!(statuses, [20, 2, 23]);
     }
 }

@@ -5,9 +5,9 @@ pub const VERSION: &str = concat!("altuliscia ", env!("CARGO_PKG_VERSION"), "\n"
 /// The exit statuses.
 macro_rules! statuses {
     () => {
-        "Exit status: 0 done, 2 the words make no sense, 3 the file can't be read or holds no problem,
-4 something can't be written, 10 + N the library's refusal N (11 to 21). What was wrong is told
-on standard error.
+        "Exit status: 0 done, 2 the words make no sense, 3 a file can't be read, or holds no problem or no
+list of serial numbers, 4 something can't be written, 10 + N the library's refusal N (11 to 23).
+What was wrong is told on standard error.
 "
     };
 }
@@ -37,6 +37,13 @@ Options, named as svm-train's where they mean the same:
               it is off, since with -h 1 a run may end in refusal 11, and a model may sort worse
               (docs/CAPTIONS.md)
   --budget N  the most passes, 1 to 10000000 (usually 10000000)
+  --retired LIST
+              trains without the samples that were withdrawn, for -s 0 with -h 0. They stay in FILE,
+              so every sample keeps its number. LIST has their serial numbers, as 20,31; or it is
+              the name of a file that has them, parted by spaces, commas or line ends, where #
+              begins a comment (20 is a number, ./20 a file); a file may name nobody. Their lines
+              must be good ones, and count for which label is seen first. Of each class somebody
+              must be left
   -t 4        a precomputed kernel; it is the only one there is and need not be said
   -q          says nothing where all is well; what isn't is told on standard error
 
@@ -59,7 +66,9 @@ libaltuliscia.a.
   1 0:1 1:1 2:0
   2 0:2 1:0 2:1
 
-and `altuliscia train small.txt` writes small.txt.model.
+and `altuliscia train small.txt` writes small.txt.model. Where captions 20 and 31 of packs.txt were
+withdrawn, `altuliscia train --retired 20,31 packs.txt` trains without them, and no other caption
+gets another number.
 
 ",
     statuses!()
@@ -71,11 +80,13 @@ pub const TRAIN: &str = concat!(
 Trains the problem of FILE, writes a model file and says how the run ended: the lines that
 svm-train ends with, the exit reason (threshold: no pair is left to mend, with -h 1: among the
 samples still active; iterations: the budget ran out), and a note where the model is worse than it
-looks. With -q only the notes, and the exit reason where it is iterations, are told.
+looks; with --retired also who is retired.
+With -q only the notes, and the exit reason where it is iterations, are told.
 
 MODEL is what LIBSVM's svm-predict reads for a precomputed kernel. Where it isn't named it is
 FILE's name with .model, in this folder. Its weights are each sample's own (the home reading). It
-is written whole or not at all, and replaces neither FILE nor a file that is read-only.
+is written whole or not at all, and replaces neither FILE nor the file of --retired nor one that is
+read-only. A retired sample isn't in it, and every other is called by its own serial number.
 
 ",
     options!(),
@@ -86,10 +97,11 @@ pub const WEIGHTS: &str = concat!(
     "altuliscia weights [OPTIONS] FILE
 
 Trains the problem of FILE and lists every sample: its number from 0 on, its serial number in
-FILE, its label, its own weight (signed by its class), `at` where the weight is at its ceiling and
-`above` where it is above it, and what the Rust crate linfa-svm says where that is another weight.
-The exit reason, rho and the notes of `train` are told on standard error; with -q only the notes,
-and the exit reason where it is iterations. No file is written.
+FILE, its label, its own weight (signed by its class), `at` where the weight is at its ceiling,
+`above` where it is above it, `retired` where the sample is retired (then its weight is 0), and
+what the Rust crate linfa-svm says where that is another weight.
+The exit reason, rho and the notes of `train` are told on standard error, and who is retired; with
+-q only the notes, and the exit reason where it is iterations. No file is written.
 
 ",
     options!(),
@@ -100,9 +112,9 @@ pub const CHECK: &str = concat!(
     "altuliscia check [OPTIONS] FILE
 
 Reads FILE and names all that the library would refuse, in FILE and in the options, a line each on
-standard output: where it stands, the refusal's number and index, and what to do. Refusal 11 can't
-be known without training. Nothing is trained and no file is written. The exit status is that of
-the lowest refusal.
+standard output: where it stands, the refusal's number and index, and what to do. What is wrong
+with the list of --retired is named, too. Refusal 11 can't be known without training. Nothing is
+trained and no file is written. The exit status is that of the first line.
 
 ",
     options!(),

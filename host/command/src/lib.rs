@@ -8,14 +8,16 @@ mod model;
 mod problem;
 mod progress;
 mod report;
+mod retired;
 mod save;
 mod trouble;
 
 pub use trouble::Trouble;
 
-use altuliscia::{fit_c, fit_nu, fit_one_class, Answer, OneClass, Options, Problem, Refusal};
+use altuliscia::{
+    fit_c, fit_c_retired, fit_nu, fit_one_class, Answer, OneClass, Options, Problem, Refusal,
+};
 use arguments::{Call, Command, Fit, Settings, Words};
-use faults::Fault;
 use problem::Samples;
 use std::io::Write;
 
@@ -41,19 +43,17 @@ fn carried_out(
 ) -> Result<(), Trouble> {
     let path = call.model_path();
     if call.command == Command::Train {
-        never_the_problem(call, &path)?;
+        never_what_is_read(call, &path)?;
     }
-    let samples = progress::shown(err, terminal, "reading", || {
-        problem::read(&call.file, call.settings.fit)
-    })?;
     let settings = &call.settings;
+    let (samples, listed) = progress::shown(err, terminal, "reading", || read(call))?;
     let ceilings = settings.ceilings(&samples)?;
-    let faults = faults::faults(&samples, settings, ceilings);
+    let faults = faults::faults(&samples, settings, ceilings, listed);
     if call.command == Command::Check {
         return checked(&samples, settings, faults, out);
     }
     if let Some(first) = faults.into_iter().next() {
-        return Err(Trouble::Refused(first.place, first.refusal));
+        return Err(first);
     }
     let answer = progress::shown(err, terminal, "training", || {
         trained(&samples, settings, ceilings)
@@ -71,28 +71,38 @@ fn carried_out(
     Ok(())
 }
 
-fn never_the_problem(call: &Call, path: &str) -> Result<(), Trouble> {
-    if !save::one_file(&call.file, path) {
-        return Ok(());
-    }
-    let told = format!(
-        "'{}' is the problem itself: the model would replace it",
-        path
-    );
+/// The samples of a call, the retired ones marked, and what is wrong with the list of these.
+fn read(call: &Call) -> Result<(Samples, Vec<Trouble>), Trouble> {
+    let mut samples = problem::read(&call.file, call.settings.fit)?;
+    let listed = match &call.settings.retired {
+        Some(list) => retired::mark(&mut samples, list)?,
+        None => Vec::new(),
+    };
+    Ok((samples, listed))
+}
+
+fn never_what_is_read(call: &Call, path: &str) -> Result<(), Trouble> {
+    let list = call.settings.retired.as_deref().and_then(retired::file);
+    let what = match list {
+        _ if save::one_file(&call.file, path) => "problem itself",
+        Some(list) if save::one_file(list, path) => "list of retired samples",
+        _ => return Ok(()),
+    };
+    let told = format!("'{}' is the {}: the model would replace it", path, what);
     Err(Trouble::Usage(told))
 }
 
 fn checked(
     s: &Samples,
     settings: &Settings,
-    faults: Vec<Fault>,
+    faults: Vec<Trouble>,
     out: &mut dyn Write,
 ) -> Result<(), Trouble> {
     if !settings.quiet || !faults.is_empty() {
         tell(out, &faults::told(s, &faults))?;
     }
-    match faults.into_iter().next() {
-        Some(first) => Err(Trouble::Faults(first.refusal)),
+    match faults.first() {
+        Some(first) => Err(Trouble::Faults(first.status())),
         None => Ok(()),
     }
 }
@@ -119,6 +129,9 @@ fn answered(s: &Samples, settings: &Settings, (cpos, cneg): (f64, f64)) -> Resul
         matrix: &s.matrix,
     };
     match settings.fit {
+        Fit::C if settings.retired.is_some() => {
+            fit_c_retired(&problem, cpos, cneg, &s.retired, &options)
+        }
         Fit::C => fit_c(&problem, cpos, cneg, &options),
         Fit::Nu => fit_nu(&problem, settings.nu, &options),
         Fit::OneClass => fit_one_class(&one, settings.nu, &options),

@@ -22,6 +22,8 @@ pub struct Samples {
     pub classes: Vec<i32>,
     /// What the samples are called in a model file.
     pub serials: Vec<u64>,
+    /// Which of them are retired.
+    pub retired: Vec<bool>,
     /// The text of each sample's line, from line 1 on; nothing in a file of bytes.
     pub lines: Vec<String>,
 }
@@ -33,6 +35,11 @@ impl Samples {
             Some(_) => format!("{}:{}", self.path, sample + 1),
             None => format!("{}: byte {}", self.path, byte),
         }
+    }
+
+    /// How many samples are retired.
+    pub fn gone(&self) -> usize {
+        self.retired.iter().filter(|retired| **retired).count()
     }
 }
 
@@ -56,6 +63,7 @@ fn own(path: &str, data: &[u8], fit: Fit) -> Result<Samples, String> {
     let cut = cut.unwrap_or(usize::MAX).min(body.len());
     let (matrix, labels) = body.split_at(cut);
     let two = fit != Fit::OneClass;
+    let serials: Vec<u64> = (1..=n.min(body.len()) as u64).collect();
     Ok(Samples {
         path: path.to_string(),
         n,
@@ -70,7 +78,8 @@ fn own(path: &str, data: &[u8], fit: Fit) -> Result<Samples, String> {
             .collect(),
         labels: labels.to_vec(),
         classes: if two { vec![1, 0] } else { Vec::new() },
-        serials: (1..=n.min(body.len()) as u64).collect(),
+        retired: vec![false; serials.len()],
+        serials,
         lines: Vec::new(),
     })
 }
@@ -127,6 +136,7 @@ fn text(path: &str, data: &[u8], fit: Fit) -> Result<Samples, (usize, String)> {
             .collect(),
         classes,
         serials: rows.iter().map(|row| row.serial as u64).collect(),
+        retired: vec![false; rows.len()],
         lines: kept,
     })
 }

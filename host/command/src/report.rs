@@ -48,7 +48,8 @@ pub fn summary(s: &Samples, settings: &Settings, ceilings: (f64, f64), a: &Answe
     match (settings.fit, a.r) {
         (Fit::C, _) if ceilings.0 == ceilings.1 => {
             let sum: f64 = a.home.iter().map(|w| w.abs()).sum();
-            lines.push(format!("nu = {}", six(sum / (ceilings.0 * s.n as f64))));
+            let most = ceilings.0 * (s.n - s.gone()) as f64;
+            lines.push(format!("nu = {}", six(sum / most)));
         }
         (Fit::Nu, Some(r)) => {
             lines.push(format!("nu = {}", six(settings.nu)));
@@ -64,6 +65,7 @@ pub fn summary(s: &Samples, settings: &Settings, ceilings: (f64, f64), a: &Answe
     if settings.fit != Fit::OneClass {
         lines.push(format!("Total nSV = {}", a.support));
     }
+    lines.extend(retired(s));
     lines.push(ended(settings, a));
     lines.extend(notes(s, settings, a));
     lines.join("\n") + "\n"
@@ -77,9 +79,25 @@ pub fn beside(s: &Samples, settings: &Settings, a: &Answer) -> String {
     }
     if !settings.quiet {
         lines.push(format!("rho = {}", double(a.rho)));
+        lines.extend(retired(s));
     }
     lines.extend(notes(s, settings, a));
     lines.into_iter().map(|line| line + "\n").collect()
+}
+
+/// Who is retired, as --retired takes it.
+fn retired(s: &Samples) -> Option<String> {
+    let gone = (0..s.n).filter(|k| s.retired[*k]);
+    let serials: Vec<String> = gone.map(|k| s.serials[k].to_string()).collect();
+    let told = || {
+        format!(
+            "retired: {} ({} of {} samples)",
+            serials.join(","),
+            serials.len(),
+            s.n
+        )
+    };
+    (!serials.is_empty()).then(told)
 }
 
 fn ended(settings: &Settings, a: &Answer) -> String {
@@ -138,13 +156,17 @@ pub fn weights(s: &Samples, settings: &Settings, ceilings: (f64, f64), a: &Answe
         } else {
             String::new()
         };
+        let mark = match s.retired[k] {
+            true => Some("retired"),
+            false => ceiling(s, settings.fit, ceilings, a, k),
+        };
         let line = format!(
             "{:>6} {:>6} {:>6}  {:<24}  {:<7}  {}",
             k,
             s.serials[k],
             label,
             double(a.home[k]),
-            ceiling(s, settings.fit, ceilings, a, k).unwrap_or_default(),
+            mark.unwrap_or_default(),
             other
         );
         lines.push(line.trim_end().to_string());

@@ -7,14 +7,14 @@ use std::fmt;
 pub enum Trouble {
     /// The words make no sense. Status 2.
     Usage(String),
-    /// A file can't be read, or holds no problem. Status 3.
+    /// A file can't be read, or holds no problem or no list of serial numbers. Status 3.
     File(String),
     /// Something can't be written. Status 4.
     Write(String),
     /// The library refuses: the place and the refusal. Status 10 and the refusal's number.
     Refused(String, Refusal),
-    /// A check found faults, and has told them; this is the lowest. Status 10 and its number.
-    Faults(Refusal),
+    /// A check found faults, and has told them. The status is that of the first, which is this.
+    Faults(u8),
 }
 
 impl Trouble {
@@ -34,9 +34,8 @@ impl Trouble {
             Trouble::Usage(_) => 2,
             Trouble::File(_) => 3,
             Trouble::Write(_) => 4,
-            Trouble::Refused(_, refusal) | Trouble::Faults(refusal) => {
-                10 + refusal.number().min(200) as u8
-            }
+            Trouble::Refused(_, refusal) => 10 + refusal.number().min(200) as u8,
+            Trouble::Faults(status) => *status,
         }
     }
 }

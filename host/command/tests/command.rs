@@ -1,56 +1,11 @@
 //! The command line over small files.
+mod common;
+
 use captions::Figures;
-use command::{run, Trouble};
+use command::run;
+use common::{both, file, folder, own, told, SMALL};
 use std::fs;
-use std::path::PathBuf;
 use std::process::Command;
-
-/// A folder of a test's own, empty.
-fn folder(name: &str) -> PathBuf {
-    let path = PathBuf::from(env!("CARGO_TARGET_TMPDIR")).join(name);
-    let _ = fs::remove_dir_all(&path);
-    fs::create_dir_all(&path).unwrap();
-    path
-}
-
-/// Writes a file there and hands back its path.
-fn file(folder: &PathBuf, name: &str, data: &[u8]) -> String {
-    let path = folder.join(name);
-    fs::write(&path, data).unwrap();
-    path.to_str().unwrap().to_string()
-}
-
-/// What is told on standard output by a line of words, in which FILE and MODEL stand for paths.
-fn told(line: &str, file: &str, model: &str) -> Result<String, Trouble> {
-    both(line, file, model).map(|(out, _)| out)
-}
-
-/// What is told on standard output and on standard error.
-fn both(line: &str, file: &str, model: &str) -> Result<(String, String), Trouble> {
-    let path = |word: &str| match word {
-        "FILE" => file.to_string(),
-        "MODEL" => model.to_string(),
-        other => other.to_string(),
-    };
-    let words: Vec<String> = line.split_whitespace().map(path).collect();
-    let (mut out, mut err) = (Vec::new(), Vec::new());
-    run(&words, &mut out, &mut err, false)?;
-    Ok((
-        String::from_utf8(out).unwrap(),
-        String::from_utf8(err).unwrap(),
-    ))
-}
-
-const SMALL: &str = "7 0:1 1:1 2:0\n3 0:2 1:0 2:1\n";
-
-/// A file of the library's own bytes.
-fn own(n: u64, matrix: &[f64], labels: &[u8]) -> Vec<u8> {
-    let mut data = b"ALTUPRB1".to_vec();
-    data.extend(n.to_le_bytes());
-    data.extend(matrix.iter().flat_map(|x| x.to_le_bytes()));
-    data.extend(labels);
-    data
-}
 
 #[test]
 fn a_model_is_written_and_told() {

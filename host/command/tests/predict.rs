@@ -1,5 +1,5 @@
 //! LIBSVM's svm-predict reads the model files and decides as the library's weights do.
-use altuliscia::{fit_c, fit_nu, fit_one_class, Answer, OneClass, Options, Problem};
+use altuliscia::{fit_c, fit_c_retired, fit_nu, fit_one_class, Answer, OneClass, Options, Problem};
 use captions::{decision, Figures};
 use std::fs;
 use std::io::Write;
@@ -85,6 +85,7 @@ fn every_held_out_caption_is_labelled_as_decided() {
             shrinking,
             ..Options::default()
         };
+        let retired: Vec<bool> = (0..64).map(|k| k == 19 || k == 30).collect();
         for (options, answer, classes) in [
             ("-c 1", fit_c(&problem, 1.0, 1.0, &with(false)), [1, 0]),
             ("-c 10", fit_c(&problem, 10.0, 10.0, &with(false)), [1, 0]),
@@ -96,6 +97,11 @@ fn every_held_out_caption_is_labelled_as_decided() {
             (
                 "-c 10 -w0 0.1",
                 fit_c(&problem, 10.0, 1.0, &with(false)),
+                [1, 0],
+            ),
+            (
+                "-c 10 --retired 20,31",
+                fit_c_retired(&problem, 10.0, 10.0, &retired, &with(false)),
                 [1, 0],
             ),
             ("-s 1 -n 0.3", fit_nu(&problem, 0.3, &with(false)), [1, 0]),
@@ -126,7 +132,7 @@ fn every_held_out_caption_is_labelled_as_decided() {
             compared += found.len();
         }
     }
-    assert_eq!(compared, 6 * (372 + 416));
+    assert_eq!(compared, 7 * (372 + 416));
 }
 
 /// Whatever the labels are called and whichever comes first, a caption gets its own language's label.

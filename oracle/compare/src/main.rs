@@ -1,8 +1,12 @@
 //! Compares the proved functions with the Rust on drawn problems.
+mod call;
 mod called;
 mod captioned;
+mod lent;
+mod made;
 mod reached;
 mod recorded;
+mod retired;
 mod trial;
 
 use std::process::ExitCode;
@@ -11,11 +15,14 @@ const HELP: &str = "compare SEED COUNT
     the proved run by itself, on the general problems of SEED, SEED + 1, ..: every list by position, rho, r, obj, iterations
     and how the run ended, after every pass of a short run
 compare c FIRST LAST
-    the four C functions, on the problems of the seeds FIRST to LAST, of every entry: every field of the answer, both result
-    lists, every byte that must stay, refusals with their index, short answers and wrong lengths
+    the four C functions without retired samples, on the problems of the seeds FIRST to LAST: every field of the answer, both
+    result lists, every byte that must stay, refusals with their index, short answers and wrong lengths
+compare retired FIRST LAST
+    the C function with retired samples, likewise; each accepted call again with other retired samples, or by the general
+    function where nobody is retired: the same bytes must be written
 compare recorded FILE
     the proved run by itself, on the recorded general problems: order and weights by position, rho, r, obj, iterations, reason,
-    refusal 11, and the pair and weights of each pass that is recorded
+    refusal 11, and the pair and weights of each pass that is recorded; and the C function on those with retired samples
 compare captions FILE..
     the C functions on real captions: the first 64, 128, 256 and 512 of each file of captions/make.py, shrinking off and on
 What the runs reached is counted. The exit status is 1 where one differs, or where 5000 seeds or more didn't reach everything.";
@@ -25,6 +32,9 @@ fn main() -> ExitCode {
     let words: Vec<&str> = words.iter().map(String::as_str).collect();
     let differ = match words[..] {
         ["c", first, last] => both(first, last).map(|(first, last)| called::compare(first, last)),
+        ["retired", first, last] => {
+            both(first, last).map(|(first, last)| retired::compare(first, last))
+        }
         ["recorded", file] => recorded::compare(file),
         ["captions", ..] => captioned::compare(&words[1..]),
         [seed, count] => both(seed, count).map(|(seed, count)| trial::compare(seed, count)),

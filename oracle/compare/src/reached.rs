@@ -1,14 +1,14 @@
 //! What a set of compared runs reached.
 use oracle::marks::{is_own_inverse, readings_differ};
-use oracle::problem::{Entry, Problem};
+use oracle::problem::{Entry, Problem, LAST_REFUSAL};
 use oracle::run::{Answer, Reason};
 
 #[derive(Default)]
 pub struct Reached {
     runs: u64,
-    by_entry: [u64; 4],
+    by_entry: [u64; Entry::ALL.len()],
     nu_rule: u64,
-    refused: [u64; 12],
+    refused: [u64; LAST_REFUSAL as usize + 1],
     accepted: u64,
     passes: u64,
     ran_out: u64,
@@ -57,20 +57,25 @@ impl Reached {
         for number in refusals {
             all.push((self.refused[*number], format!("refused with {number}")));
         }
-        let rest = [
+        let mut rest = vec![
             (self.accepted, "accepted"),
             (self.nu_rule, "accepted under the nu rule"),
             (self.passes, "passes in all"),
             (self.ran_out, "ran out of budget"),
-            (self.shrank, "shrank"),
-            (self.moved, "moved"),
-            (self.first_branch, "reconstructed by the first branch"),
-            (self.second_branch, "reconstructed by the second branch"),
-            (self.unshrunk, "unshrunk"),
-            (self.turned, "left an order that isn't its own inverse"),
-            (self.differing, "have readings that differ"),
         ];
-        all.extend(rest.map(|(count, name)| (count, name.to_string())));
+        // with retired samples shrinking is off
+        if entries != [Entry::Retired] {
+            rest.extend([
+                (self.shrank, "shrank"),
+                (self.moved, "moved"),
+                (self.first_branch, "reconstructed by the first branch"),
+                (self.second_branch, "reconstructed by the second branch"),
+                (self.unshrunk, "unshrunk"),
+                (self.turned, "left an order that isn't its own inverse"),
+                (self.differing, "have readings that differ"),
+            ]);
+        }
+        all.extend(rest.iter().map(|(count, name)| (*count, name.to_string())));
         let name = format!("met zeros of different sign: {zeros}");
         all.push((self.zero_pairs, name));
         all

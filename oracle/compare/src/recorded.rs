@@ -1,6 +1,8 @@
-//! The recorded answers through the proved run, by position and pass for pass.
+//! The recorded answers through the proved run, by position and pass for pass; those with retired samples through the C function.
+use crate::call::{Call, Spoiled};
 use crate::trial::{run, Ran};
 use oracle::problem::{Entry, Problem};
+use oracle::random::Random;
 use oracle::record::{read, Told};
 use oracle::run::canonical;
 
@@ -14,7 +16,25 @@ struct Counts {
     turned: u64,
     zero_pairs: u64,
     passes: u64,
+    retired: u64,
+    called: u64,
     differ: u64,
+}
+
+impl Counts {
+    fn tell(&self) {
+        println!("records                          {}", self.records);
+        println!("general, run by position         {}", self.played);
+        println!("with shrinking                   {}", self.shrinking);
+        println!("by the nu rule                   {}", self.nu_rule);
+        println!("refused with 11                  {}", self.refused);
+        println!("order not its own inverse        {}", self.turned);
+        println!("zeros of different sign          {}", self.zero_pairs);
+        println!("passes compared one by one       {}", self.passes);
+        println!("with retired samples             {}", self.retired);
+        println!("of them called                   {}", self.called);
+        println!("differ                           {}", self.differ);
+    }
 }
 
 fn words(list: &[f64]) -> Vec<u64> {
@@ -75,7 +95,36 @@ fn pass_differs(p: &Problem, told: &Told, counts: &mut Counts) -> Option<u64> {
     None
 }
 
-/// Plays each general record that isn't refused with 1 to 10, and says how many differ.
+/// The words that a call must write: both readings, and the answer.
+fn written(told: &Told) -> Vec<u64> {
+    let mut all = told.crate_reading.clone();
+    all.extend(&told.home);
+    all.extend([told.refusal, told.index, told.rho, told.r_present, told.r]);
+    all.extend([told.obj, told.iterations, told.reason, told.support]);
+    all
+}
+
+/// Calls the C function on a record with retired samples. It brings scratch of its own, so a record that lends too little is
+/// passed over.
+fn call(k: usize, p: &Problem, told: &Told, c: &mut Counts) {
+    c.retired += 1;
+    let short =
+        || p.scratch_floats < 7 * p.n || p.scratch_numbers < 2 * p.n || p.scratch_bytes < p.n;
+    if told.refusal == 2 && short() {
+        return;
+    }
+    c.called += 1;
+    let g = &mut Random::new(k as u64);
+    let mut call = Call::new(g, p.clone(), Spoiled::Nothing);
+    let (_, differs) = call.compare();
+    let parted = told.zero_pair == 0 && call.written(told.home.len()) != written(told);
+    if let Some(what) = differs.or(parted.then_some("the record")) {
+        c.differ += 1;
+        println!("record {k}, retired: {what}");
+    }
+}
+
+/// Plays each general record that isn't refused with 1 to 10, calls those with retired samples, and says how many differ.
 pub fn compare(path: &str) -> Option<u64> {
     let bytes = std::fs::read(path).ok()?;
     let records = read(&bytes).ok()?;
@@ -83,6 +132,9 @@ pub fn compare(path: &str) -> Option<u64> {
     for (k, r) in records.iter().enumerate() {
         c.records += 1;
         let (p, told) = (&r.problem, &r.told);
+        if p.entry == Entry::Retired {
+            call(k, p, told, &mut c);
+        }
         if p.entry != Entry::General || (told.refusal != 0 && told.refusal != 11) {
             continue;
         }
@@ -102,14 +154,6 @@ pub fn compare(path: &str) -> Option<u64> {
             println!("record {k}: pass {pass}");
         }
     }
-    println!("records                          {}", c.records);
-    println!("general, run by position         {}", c.played);
-    println!("with shrinking                   {}", c.shrinking);
-    println!("by the nu rule                   {}", c.nu_rule);
-    println!("refused with 11                  {}", c.refused);
-    println!("order not its own inverse        {}", c.turned);
-    println!("zeros of different sign          {}", c.zero_pairs);
-    println!("passes compared one by one       {}", c.passes);
-    println!("differ                           {}", c.differ);
-    Some(c.differ + u64::from(c.played == 0))
+    c.tell();
+    Some(c.differ + u64::from(c.played == 0 || c.called == 0))
 }

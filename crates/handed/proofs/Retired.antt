@@ -1,0 +1,194 @@
+-- Where `altuliscia_retired` answers 0, its training was accepted and every promise of it holds of the call, down to the bytes; what is lent for who is
+-- retired changes no byte; and with nobody retired it is `altuliscia_general` with shrinking off, refusals too. Assumes nothing.
+use Prim.Native.Nat.{ℕ, _*_, _%_, _^_, _≤_, _<_}
+use mathlib.Core.Bool.{Bool, true, false, _&&_, cond}
+use mathlib.Core.List.{List}
+use mathlib.Core.Path.{_≡_, refl, sym, ap, _∙_}
+use native.Mathlib.Omega.{arith}
+use borrow.Author.Tests.{eqb-true, eq-eqb}
+use lib.Dec.{T, eqb}
+use lib.Ieee.{Float, nan, binary64, toBits, ofBits, fits}
+use lib.Ieee.Bits.{ofBits-fits}
+use lib.ListN.{length, getD}
+use Rattle.alpha.specs.Weight as Weight
+use Rattle.altuliscia.specs.Functions.{isOn, asFloat, byteSizes, generalInputs, tuningKnown, generalHost, retiredHost}
+use Rattle.answer.specs.Lent.{Whole}
+use Rattle.answer.specs.declared.Answer.{Answer}
+use Rattle.answer.specs.declared.Outcome.{Outcome}
+use Rattle.answer.specs.declared.Outcome.the-variants.{Accepted, Refused}
+use Rattle.boxed.specs.Range.{In}
+use Rattle.extreme.specs.declared.Choice.the-variants.{Pair}
+use Rattle.hosted.specs.Hosted.{floatsOf, hostSizes, deliveredBy, room, Handed, handed, delivered, turnedAway, hostedBy}
+use Rattle.hosted.proofs.Serves.{Serves, inputs-right, serves}
+use Rattle.judge.specs.Sizes.{countGood, roomGood, sizes}
+use Rattle.promises.specs.Fit.{Fit}
+use Rattle.promises.specs.Retired.{retiredFit, afterOver, weightOver, pairOver, deltaOver, stepsOver, ownOver}
+use Rattle.promises.proofs.Numbers.{retired-sized-number}
+use Rattle.promises.proofs.Retired.{taken-alike, taken-home, taken-reads, taken-travels, taken-iterations}
+use Rattle.promises.proofs.RetiredBox.{taken-box, taken-no-nan, taken-home-box}
+use Rattle.retired.specs.Differ.{Input, DifferRetired}
+use Rattle.retired.specs.Entry.{standsIn, kept, retiredSized}
+use Rattle.retired.proofs.Independent.{Taken, sized-taken, taken-independent}
+use Rattle.retired.proofs.Nobody.{sized-nobody}
+use Rattle.rounding.specs.Units.{Real}
+use Rattle.rounding.proofs.Order.{both}
+use Rattle.travel.specs.Travel.{Travelled}
+use Rattle.wire.specs.Wire.{digits}
+use Rattle.handed.specs.Gives.{decoded, GivesOver}
+use Rattle.handed.proofs.Handed.{turned-not, Out, delivered-out, room-fits, floats-at}
+use Rattle.handed.proofs.Stored.{stored-at}
+
+module _ (n : ℕ) (m l c a p r : List ℕ) (nurule eps shrinking budget : ℕ) (t cr h an : List ℕ) (z : retiredHost n m l c a p r nurule eps shrinking budget t cr h an .code ≡ 0) where
+  abbrev x : Input
+  x = decoded n m l c a p
+
+  abbrev k : Fit
+  k = retiredFit n x r (isOn nurule) (asFloat eps)
+
+  abbrev w : Whole
+  w = retiredSized n m l (floatsOf c n) (floatsOf a n) (floatsOf p n) r (isOn nurule) (asFloat eps) (isOn shrinking) budget room
+
+  abbrev o : Handed
+  o = retiredHost n m l c a p r nurule eps shrinking budget t cr h an
+
+  abbrev inputs : Bool
+  inputs = generalInputs n l c a p && eqb (length r) n && tuningKnown t
+
+  in-time : (byteSizes n inputs m cr h an ≡ 0) × (o ≡ delivered n w cr h an)
+  unfolding retiredHost
+  in-time = turned-not (byteSizes n inputs m cr h an) (delivered n w cr h an) cr h an z
+
+  served : Serves n (length m) (length cr) (length h) (length an)
+  served = serves n inputs (length m) (length cr) (length h) (length an) (in-time .0)
+
+  out : Out n w cr h o
+  out =
+      rw (in-time .1) (delivered-out n w cr h an
+      (λ q i e. retired-sized-number n m l (floatsOf c n) (floatsOf a n) (floatsOf p n) r (isOn nurule) (asFloat eps) (isOn shrinking) budget room q i e .0)
+      (sym (ap (λ (q : Handed). q .code) (in-time .1)) ∙ z))
+
+  -- the tuning is empty
+  pub retired-called-untuned : length t ≡ 0
+  retired-called-untuned = eqb-true (length t) 0 (both (generalInputs n l c a p && eqb (length r) n) (tuningKnown t) (inputs-right n inputs (length m) (length cr) (length h) (length an) (in-time .0)) .1)
+
+  -- the training was accepted
+  pub retired-called : (z : Answer) × (w .out ≡ Accepted z)
+  retired-called = (out .answer, out .accepted)
+
+  -- so all that is promised of one holds
+  called-taken : Taken n r (isOn nurule) (asFloat eps) (isOn shrinking) budget room x w
+  called-taken = sized-taken n r (isOn nurule) (asFloat eps) (isOn shrinking) budget room x (room-fits n (length m) (served .room)) (out .answer) (out .accepted)
+
+  home-at : (s : ℕ) → s < n → digits (o .home) (8 * s) 8 ≡ toBits binary64 (getD (w .left .home) s nan) % 256 ^ 8
+  home-at s g = ap (λ (b : List ℕ). digits b (8 * s) 8) (out .home) ∙ stored-at (w .left .home) h n s (served .home) g
+
+  no-bits : toBits binary64 Weight.zero % 256 ^ 8 ≡ 0
+  unfolding toBits ofBits
+  no-bits = refl
+
+  pub retired-gives : GivesOver r k m budget o
+  retired-gives = record {
+    home = λ s g. home-at s g ∙ ap (λ (y : Float). toBits binary64 y % 256 ^ 8) (taken-home called-taken s g);
+    reads = λ s g q. home-at s g ∙ ap (λ (y : Float). toBits binary64 y % 256 ^ 8) (taken-reads called-taken s g q) ∙ no-bits;
+    alike = λ s g.
+        ap (λ (b : List ℕ). digits b (8 * s) 8) (out .crate)
+        ∙ stored-at (w .left .crate) cr n s (served .crate) g
+        ∙ ap (λ (y : Float). toBits binary64 y % 256 ^ 8) (taken-alike called-taken s g)
+        ∙ sym (home-at s g);
+  }
+
+  -- its iterations are its steps
+  pub retired-called-iterations : (retired-called .0 .iterations ≡ length (stepsOver (standsIn r) k m room budget)) × (retired-called .0 .iterations ≤ budget)
+  retired-called-iterations = taken-iterations called-taken (retired-called .0) (retired-called .1)
+
+  pub retired-called-travels : (q : ℕ) → Travelled n (λ s. getD l s 0) (λ s. getD (kept r (floatsOf p n) n) s nan) (afterOver (standsIn r) k m room q .state)
+  retired-called-travels = taken-travels called-taken
+
+  -- the box, where every ceiling that is lent for one that stands is b
+  module _ (b : Float) (fit : T (fits binary64 b)) (same : (i : ℕ) → i < n → standsIn r i ≡ true → getD (floatsOf c n) i nan ≡ b) where
+    fit-a : (i : ℕ) → i < n → standsIn r i ≡ true → T (fits binary64 (getD (floatsOf a n) i nan))
+    fit-a i g q = rw (floats-at a n i (served .room .most) g) (ofBits-fits binary64 _)
+
+    pub retired-called-box : (q i : ℕ) → i < n → standsIn r i ≡ true → In b (weightOver (standsIn r) k m room q i)
+    retired-called-box = taken-box called-taken b fit same fit-a
+
+    pub retired-called-no-nan : (q i j : ℕ) → pairOver (standsIn r) k m room q ≡ Pair i j → Real (deltaOver (standsIn r) k m room q i j)
+    retired-called-no-nan = taken-no-nan called-taken b fit same fit-a
+
+    pub retired-called-home-box : (s : ℕ) → s < n → standsIn r s ≡ true → In b (ownOver (standsIn r) k m room budget s)
+    retired-called-home-box = taken-home-box called-taken b fit same fit-a
+
+-- ---- what it answers, accepted or not: 0 to 10, 12 or 13
+
+abbrev Listed : ℕ → Type 0
+Listed q = (q ≤ 13) × (q ≡ 11 → ⊥)
+
+few : (n : ℕ) (inputs : Bool) (m rc rh f u y : ℕ) → sizes n inputs m rc rh f u y ≤ 2
+unfolding sizes
+few n inputs m rc rh f u y = go (countGood n) (inputs && roomGood n m rc rh f u y)
+  where
+    go : (a b : Bool) → cond a (cond b 0 2) 1 ≤ 2
+    go true true = omega arith
+    go true false = omega arith
+    go false b = omega arith
+
+delivered-listed : (n : ℕ) (w : Whole) (cr h an : List ℕ) → ((q i : ℕ) → w .out ≡ Refused q i → (1 ≤ q) × (q ≤ 13) × (q ≡ 11 → ⊥)) → Listed (delivered n w cr h an .code)
+unfolding delivered deliveredBy
+delivered-listed n w cr h an told = go (w .out) refl
+  where
+    go : (o : Outcome) → w .out ≡ o → Listed (deliveredBy n o (w .left .crate) (w .left .home) cr h an .code)
+    go (Accepted x) e = (omega arith, λ z. omega arith)
+    go (Refused q i) e = let t = told q i e in (t .1, t .2)
+
+hosted-listed : (number : ℕ) (w : Handed) (cr h an : List ℕ) → number ≤ 2 → Listed (w .code) → Listed (hostedBy number w cr h an .code)
+unfolding hostedBy
+hosted-listed number w cr h an small told = go (eqb number 0)
+  where
+    go : (b : Bool) → Listed (cond b w (handed number cr h (turnedAway number an)) .code)
+    go true = told
+    go false = (omega arith, λ z. omega arith)
+
+pub retired-called-number : (n : ℕ) (m l c a p r : List ℕ) (nurule eps shrinking budget : ℕ) (t cr h an : List ℕ)
+    → (retiredHost n m l c a p r nurule eps shrinking budget t cr h an .code ≤ 13) × (retiredHost n m l c a p r nurule eps shrinking budget t cr h an .code ≡ 11 → ⊥)
+unfolding retiredHost hostSizes
+retired-called-number n m l c a p r nurule eps shrinking budget t cr h an =
+    hosted-listed _ _ cr h an (few n _ _ _ _ _ _ _)
+    (delivered-listed n _ cr h an (retired-sized-number n m l (floatsOf c n) (floatsOf a n) (floatsOf p n) r (isOn nurule) (asFloat eps) (isOn shrinking) budget room))
+
+-- ---- two calls that differ in what is lent for who is retired: where both answer 0, they write the same bytes
+
+pub retired-called-independent : (n : ℕ) (m l c a p m' l' c' a' p' r : List ℕ) (nurule eps shrinking budget : ℕ) (t cr h an : List ℕ)
+    → DifferRetired n r (decoded n m l c a p) (decoded n m' l' c' a' p')
+    → retiredHost n m l c a p r nurule eps shrinking budget t cr h an .code ≡ 0
+    → retiredHost n m' l' c' a' p' r nurule eps shrinking budget t cr h an .code ≡ 0
+    → retiredHost n m l c a p r nurule eps shrinking budget t cr h an ≡ retiredHost n m' l' c' a' p' r nurule eps shrinking budget t cr h an
+retired-called-independent n m l c a p m' l' c' a' p' r nurule eps shrinking budget t cr h an D z z' =
+    in-time n m l c a p r nurule eps shrinking budget t cr h an z .1
+    ∙ ap (λ (q : Whole). delivered n q cr h an)
+    (taken-independent D (called-taken n m l c a p r nurule eps shrinking budget t cr h an z) (called-taken n m' l' c' a' p' r nurule eps shrinking budget t cr h an z'))
+    ∙ sym (in-time n m' l' c' a' p' r nurule eps shrinking budget t cr h an z' .1)
+
+-- ---- nobody retired, no tuning, shrinking off
+
+hosted-same : (number : ℕ) (w v : Handed) (cr h an : List ℕ) → (number ≡ 0 → w ≡ v) → hostedBy number w cr h an ≡ hostedBy number v cr h an
+unfolding hostedBy
+hosted-same number w v cr h an same = go (eqb number 0) refl
+  where
+    go : (b : Bool) → eqb number 0 ≡ b → cond b w (handed number cr h (turnedAway number an)) ≡ cond b v (handed number cr h (turnedAway number an))
+    go true e = same (eqb-true number 0 e)
+    go false e = refl
+
+pub retired-called-nobody : (n : ℕ) (m l c a p r : List ℕ) (nurule eps budget : ℕ) (t cr h an : List ℕ) → length r ≡ n → ((i : ℕ) → i < n → getD r i 0 ≡ 0) → length t ≡ 0
+    → retiredHost n m l c a p r nurule eps 0 budget t cr h an ≡ generalHost n m l c a p nurule eps 0 budget cr h an
+unfolding retiredHost generalHost
+retired-called-nobody n m l c a p r nurule eps budget t cr h an long all none =
+    let given = generalInputs n l c a p in
+    let same : (given && eqb (length r) n && tuningKnown t) ≡ given = rw (eq-eqb (length r) n long, eq-eqb (length t) 0 none) (and-true (given && true) ∙ and-true given) in
+    rw same (hosted-same (byteSizes n given m cr h an) _ _ cr h an
+    (λ e. ap (λ (q : Whole). delivered n q cr h an)
+    (sized-nobody n r long all m l (floatsOf c n) (floatsOf a n) (floatsOf p n) (isOn nurule) (asFloat eps) budget room
+    (room-fits n (length m) (serves n given (length m) (length cr) (length h) (length an) e .room)))))
+  where
+    and-true : (b : Bool) → (b && true) ≡ b
+    and-true true = refl
+    and-true false = refl

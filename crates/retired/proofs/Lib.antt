@@ -1,0 +1,4 @@
+pub mod Laws
+pub mod Independent
+pub mod Coded
+pub mod Nobody

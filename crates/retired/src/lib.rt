@@ -1,0 +1,1 @@
+// The definitions of the entry with retired samples, and the theorems about them: no code.

@@ -1,0 +1,14 @@
+pub mod Alike
+pub mod Best
+pub mod Choices
+pub mod Updates
+pub mod Runs
+pub mod Nan
+pub mod Silent
+pub mod Starts
+pub mod Ends
+pub mod Independent
+pub mod Off
+pub mod Rest
+pub mod Sample
+pub mod Passed

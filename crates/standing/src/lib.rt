@@ -1,0 +1,1 @@
+// Training with retired samples.
