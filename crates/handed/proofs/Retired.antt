@@ -21,10 +21,10 @@ use Rattle.extreme.specs.declared.Choice.the-variants.{Pair}
 use Rattle.hosted.specs.Hosted.{floatsOf, hostSizes, deliveredBy, room, Handed, handed, delivered, turnedAway, hostedBy}
 use Rattle.hosted.proofs.Serves.{Serves, inputs-right, serves}
 use Rattle.judge.specs.Sizes.{countGood, roomGood, sizes}
-use Rattle.promises.specs.Fit.{Fit}
-use Rattle.promises.specs.Retired.{retiredFit, afterOver, weightOver, pairOver, deltaOver, stepsOver, ownOver}
+use Rattle.promises.specs.Fit.{Fit, weightAfter}
+use Rattle.promises.specs.Retired.{retiredFit, silentFit, afterOver, weightOver, pairOver, deltaOver, stepsOver, ownOver}
 use Rattle.promises.proofs.Numbers.{retired-sized-number}
-use Rattle.promises.proofs.Retired.{taken-alike, taken-home, taken-reads, taken-travels, taken-iterations}
+use Rattle.promises.proofs.Retired.{taken-alike, taken-home, taken-reads, taken-travels, taken-pairs, taken-iterations, taken-coded}
 use Rattle.promises.proofs.RetiredBox.{taken-box, taken-no-nan, taken-home-box}
 use Rattle.retired.specs.Differ.{Input, DifferRetired}
 use Rattle.retired.specs.Entry.{standsIn, kept, retiredSized}
@@ -100,6 +100,13 @@ module _ (n : ℕ) (m l c a p r : List ℕ) (nurule eps shrinking budget : ℕ) 
   -- its iterations are its steps
   pub retired-called-iterations : (retired-called .0 .iterations ≡ length (stepsOver (standsIn r) k m room budget)) × (retired-called .0 .iterations ≤ budget)
   retired-called-iterations = taken-iterations called-taken (retired-called .0) (retired-called .1)
+
+  -- both samples of a pair stand, and the code's run has the same weights after each pass
+  pub retired-called-pairs : (q i j : ℕ) → pairOver (standsIn r) k m room q ≡ Pair i j → ((i < n) × (standsIn r i ≡ true)) × ((j < n) × (standsIn r j ≡ true))
+  retired-called-pairs = taken-pairs called-taken
+
+  pub retired-called-coded : (q i : ℕ) → i < n → weightAfter (silentFit n x r (isOn nurule) (asFloat eps)) m room q i ≡ weightOver (standsIn r) k m room q i
+  retired-called-coded = taken-coded called-taken
 
   pub retired-called-travels : (q : ℕ) → Travelled n (λ s. getD l s 0) (λ s. getD (kept r (floatsOf p n) n) s nan) (afterOver (standsIn r) k m room q .state)
   retired-called-travels = taken-travels called-taken

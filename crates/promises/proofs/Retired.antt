@@ -18,10 +18,10 @@ use Rattle.kernel.specs.declared.Kind.the-variants.{TwoClass}
 use Rattle.readings.specs.Order.{weightIn, Perm}
 use Rattle.readings.proofs.Order.{crate-at, home-at}
 use Rattle.retired.specs.Coded.{silenced}
-use Rattle.retired.specs.Differ.{Input, DifferRetired}
+use Rattle.retired.specs.Differ.{Input}
 use Rattle.retired.specs.Entry.{standsIn, kept, answeredOver, fittedOver}
-use Rattle.retired.proofs.Coded.{kept-place, silenced-place, going}
-use Rattle.retired.proofs.Independent.{lent-alike, Taken, taken-usable}
+use Rattle.retired.proofs.Coded.{going, silent-alike}
+use Rattle.retired.proofs.Independent.{kept-place, Taken, taken-usable}
 use Rattle.solver.specs.Run.{problemOf, Full}
 use Rattle.standing.specs.Run.{trainedOver}
 use Rattle.standing.proofs.Independent.{trained-twins, trained-order}
@@ -158,20 +158,10 @@ module _ {n : ℕ} {r : List ℕ} {nurule : Bool} {eps : Float} {shrinking : Boo
 
   coded-twins : (t : ℕ) → Twins (standsIn r) (k .given) m m (trainedOver (standsIn r) (k .given) m (x .ceilings) t (startFrom (silentFit n x r nurule eps) m d)) (trainedOver (standsIn r) (k .given) m (x .ceilings) t start)
   coded-twins t =
-      let lf = v .room .floats in
-      let lu = v .room .numbers in
-      let ly = v .room .bytes in
       trained-twins (standsIn r) (k .given) m m (x .ceilings) (x .ceilings) (λ i h z. refl) (startFrom (silentFit n x r nurule eps) m d) start
-      (ready-loaded n TwoClass m (x .labels) (x .ceilings) (kept r (x .weights) n) (silenced r (x .terms) n) (scratchOf d) (taken-usable v .matrix) lf lu ly) taken-ready
-      (lent-alike n TwoClass r x x own (scratchOf d) lf lu ly (kept r (x .weights) n) (silenced r (x .terms) n) (kept r (x .weights) n) (kept r (x .terms) n) (kept-place r n (v .room .most) (x .weights)) (kept-place r n (v .room .most) (x .weights))
-      (λ i h z.
-      silenced-place r n (v .room .most) (x .terms) i h
-      ∙ ap (λ (b : Bool). cond b (getD (x .terms) i nan) nan) z
-      ∙ sym (kept-place r n (v .room .most) (x .terms) i h ∙ ap (λ (b : Bool). cond b (getD (x .terms) i nan) Weight.zero) z)))
+      (ready-loaded n TwoClass m (x .labels) (x .ceilings) (kept r (x .weights) n) (silenced r (x .terms) n) (scratchOf d) (taken-usable v .matrix) (v .room .floats) (v .room .numbers) (v .room .bytes)) taken-ready
+      (silent-alike n r x nurule eps budget d (v .room .most) (v .room .floats) (v .room .numbers) (v .room .bytes) (v .room .crate) (v .room .home) (taken-usable v .matrix))
       refl t
-    where
-      own : DifferRetired n r x x
-      own = record { labels = λ i h z. refl; ceilings = λ i h z. refl; weights = λ i h z. refl; terms = λ i h z. refl; entries = λ i j h q z y. refl }
 
   coded-goes : (t : ℕ) → Goes (standsIn r) (k .given) m refl (x .ceilings) (after (silentFit n x r nurule eps) m d t) (trainedOver (standsIn r) (k .given) m (x .ceilings) t (startFrom (silentFit n x r nurule eps) m d))
   unfolding trainedOver

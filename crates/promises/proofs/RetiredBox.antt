@@ -26,8 +26,8 @@ use Rattle.kernel.specs.declared.Kind.the-variants.{TwoClass}
 use Rattle.retired.specs.Coded.{silenced}
 use Rattle.retired.specs.Differ.{Input, DifferRetired}
 use Rattle.retired.specs.Entry.{standsIn, keptTo, kept}
-use Rattle.retired.proofs.Coded.{kept-place, silenced-place, going}
-use Rattle.retired.proofs.Independent.{kept-at, lent-alike, Taken, taken-usable}
+use Rattle.retired.proofs.Coded.{silenced-place, going}
+use Rattle.retired.proofs.Independent.{kept-at, kept-place, lent-alike, Taken, taken-usable}
 use Rattle.retired.proofs.Laws.{retired-fine}
 use Rattle.rounding.specs.Units.{Real}
 use Rattle.solver.specs.Run.{problemOf}

@@ -46,17 +46,11 @@ use Rattle.trace.proofs.Rests.{same-started}
 use Rattle.retired.specs.Coded.{silenced, withObj, solvedSilent, fittedSilent}
 use Rattle.retired.specs.Differ.{Input, DifferRetired}
 use Rattle.retired.specs.Entry.{standsIn, kept, answeredOver, fittedOver}
-use Rattle.retired.proofs.Independent.{kept-at, lent-alike, answered-same}
+use Rattle.retired.proofs.Independent.{kept-at, kept-place, zero-low, lent-alike, answered-same}
 
--- what stands in the two lists that a fit loads
-module _ (r : List ℕ) (n : ℕ) (most : n ≤ 512) where
-  pub kept-place : (a : List Float) (k : ℕ) → k < n → getD (kept r a n) k nan ≡ cond (standsIn r k) (getD a k nan) Weight.zero
-  unfolding kept
-  kept-place a k l = kept-at r Weight.zero a nothing n k l (omega arith)
-
-  pub silenced-place : (a : List Float) (k : ℕ) → k < n → getD (silenced r a n) k nan ≡ cond (standsIn r k) (getD a k nan) nan
-  unfolding silenced
-  silenced-place a k l = kept-at r nan a nothing n k l (omega arith)
+pub silenced-place : (r : List ℕ) (n : ℕ) → n ≤ 512 → (a : List Float) (k : ℕ) → k < n → getD (silenced r a n) k nan ≡ cond (standsIn r k) (getD a k nan) nan
+unfolding silenced
+silenced-place r n most a k l = kept-at r nan a nothing n k l (omega arith)
 
 -- as it is, a coefficient stays
 finished-plain : (l : List ℕ) (r : Float) (d : List Float) (n : ℕ) → n ≤ length d → finishedTo Plain l r d n ≡ d
@@ -182,18 +176,11 @@ module _ (n : ℕ) (r : List ℕ) (x : Input) (nurule : Bool) (eps : Float) (bud
   ready-t : Ready (problemOf g (x .matrix)) t
   ready-t = ready-loaded n TwoClass (x .matrix) (x .labels) (x .ceilings) a0 p0 (scratchOf d) M lf lu ly
 
-  kept-is : (a : List Float) (k : ℕ) → k < n → getD (kept r a n) k nan ≡ cond (st k) (getD a k nan) Weight.zero
-  kept-is = kept-place r n most
-
   kept-by : (a : List Float) (k : ℕ) → k < n → (b : Bool) → st k ≡ b → getD (kept r a n) k nan ≡ cond b (getD a k nan) Weight.zero
-  kept-by a k l b h = kept-is a k l ∙ ap (λ (z : Bool). cond z (getD a k nan) Weight.zero) h
+  kept-by a k l b h = kept-place r n most a k l ∙ ap (λ (z : Bool). cond z (getD a k nan) Weight.zero) h
 
   silenced-by : (a : List Float) (k : ℕ) → k < n → (b : Bool) → st k ≡ b → getD (silenced r a n) k nan ≡ cond b (getD a k nan) nan
   silenced-by a k l b h = silenced-place r n most a k l ∙ ap (λ (z : Bool). cond z (getD a k nan) nan) h
-
-  zero-low : eq Weight.zero Weight.zero ≡ true
-  unfolding eq ofBits
-  zero-low = refl
 
   silent : Silent st (problemOf g (x .matrix)) (state (started (problemOf g (x .matrix)) (x .ceilings) s) (s .numbers) (s .labels))
   silent =
@@ -251,20 +238,20 @@ module _ (n : ℕ) (r : List ℕ) (x : Input) (nurule : Bool) (eps : Float) (bud
   own : DifferRetired n r x x
   own = record { labels = λ k l h. refl; ceilings = λ k l h. refl; weights = λ k l h. refl; terms = λ k l h. refl; entries = λ i k l c h b. refl }
 
-  alike : LentAlike st (problemOf g (x .matrix)) (problemOf g (x .matrix)) s t
-  alike =
-      lent-alike n TwoClass r x x own (scratchOf d) lf lu ly a0 p1 a0 p0 (kept-is (x .weights)) (kept-is (x .weights))
+  pub silent-alike : LentAlike st (problemOf g (x .matrix)) (problemOf g (x .matrix)) s t
+  silent-alike =
+      lent-alike n TwoClass r x x own (scratchOf d) lf lu ly a0 p1 a0 p0 (kept-place r n most (x .weights)) (kept-place r n most (x .weights))
       (λ k l h. silenced-by (x .terms) k l true h ∙ sym (kept-by (x .terms) k l true h))
 
   told : answeredOver st g budget silent-run d ≡ answeredOver st g budget plain-run d
   told =
       answered-same st g budget d silent-run plain-run
-      (same-run st g (x .matrix) (x .matrix) (x .ceilings) (x .ceilings) (λ k l h. refl) s t ready-s ready-t alike refl budget)
+      (same-run st g (x .matrix) (x .matrix) (x .ceilings) (x .ceilings) (λ k l h. refl) s t ready-s ready-t silent-alike refl budget)
       (trained-order st g (x .matrix) (x .ceilings) budget s ∙ sym (trained-order st g (x .matrix) (x .ceilings) budget t))
       (λ k l. rw (trained-order st g (x .matrix) (x .ceilings) budget s, sample-loaded n (d .numbers) lu n k (omega arith) l) l)
-      (same-weights st g (x .matrix) (x .matrix) (x .ceilings) (x .ceilings) (λ k l h. refl) s t ready-s ready-t alike refl budget)
-      (same-level st g (x .matrix) (x .matrix) (x .ceilings) (x .ceilings) (λ k l h. refl) s t ready-s ready-t alike refl budget nurule)
-      (same-objective st g (x .matrix) (x .matrix) (x .ceilings) (x .ceilings) (λ k l h. refl) s t ready-s ready-t alike refl budget)
+      (same-weights st g (x .matrix) (x .matrix) (x .ceilings) (x .ceilings) (λ k l h. refl) s t ready-s ready-t silent-alike refl budget)
+      (same-level st g (x .matrix) (x .matrix) (x .ceilings) (x .ceilings) (λ k l h. refl) s t ready-s ready-t silent-alike refl budget nurule)
+      (same-objective st g (x .matrix) (x .matrix) (x .ceilings) (x .ceilings) (λ k l h. refl) s t ready-s ready-t silent-alike refl budget)
 
   -- what the code leaves is what the entry says
   pub silent-is : fittedSilent g (x .matrix) (x .labels) (x .ceilings) (x .weights) (x .terms) r budget d

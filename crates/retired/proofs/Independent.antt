@@ -66,6 +66,14 @@ kept-at r x a d (suc k) j h l = go (ℕ-discrete j k) (kept-at r x a d k j)
     go (yes q) before = rw q (getD-set-same e k v nan (rw (length-kept r x a d k) (omega arith)))
     go (no q) before = getD-set-other e k j v nan q ∙ before (omega arith) (omega arith)
 
+pub kept-place : (r : List ℕ) (n : ℕ) → n ≤ 512 → (a : List Float) (k : ℕ) → k < n → getD (kept r a n) k nan ≡ cond (standsIn r k) (getD a k nan) Weight.zero
+unfolding kept
+kept-place r n most a k l = kept-at r Weight.zero a nothing n k l (omega arith)
+
+pub zero-low : eq Weight.zero Weight.zero ≡ true
+unfolding eq ofBits
+zero-low = refl
+
 -- ---- loaded, two such trainings are alike
 
 module _ (n : ℕ) (kind : Kind) (r : List ℕ) (x y : Input) (D : DifferRetired n r x y) (d : State)
@@ -87,10 +95,6 @@ module _ (n : ℕ) (kind : Kind) (r : List ℕ) (x y : Input) (D : DifferRetired
           → cond z (getD (x .weights) k nan) Weight.zero ≡ cond z (getD (y .weights) k nan) Weight.zero
       go true h = h refl
       go false h = refl
-
-  zero-low : eq Weight.zero Weight.zero ≡ true
-  unfolding eq ofBits
-  zero-low = refl
 
   label-same : (k : ℕ) → k < n → standsIn r k ≡ true → getD (s .labels) k 0 ≡ getD (t .labels) k 0
   label-same k l h =
@@ -170,12 +174,8 @@ module _ (n : ℕ) (r : List ℕ) (x y : Input) (D : DifferRetired n r x y) (nur
   abbrev fitOf : Input → Whole
   fitOf z = fittedOver (standsIn r) g (z .matrix) (z .labels) (z .ceilings) (kept r (z .weights) n) (kept r (z .terms) n) budget d
 
-  kept-is : (a : List Float) (k : ℕ) → k < n → getD (kept r a n) k nan ≡ cond (standsIn r k) (getD a k nan) Weight.zero
-  unfolding kept
-  kept-is a k l = kept-at r Weight.zero a nothing n k l (omega arith)
-
   kept-stands : (a : List Float) (k : ℕ) → k < n → standsIn r k ≡ true → getD (kept r a n) k nan ≡ getD a k nan
-  kept-stands a k l h = kept-is a k l ∙ ap (λ (z : Bool). cond z (getD a k nan) Weight.zero) h
+  kept-stands a k l h = kept-place r n most a k l ∙ ap (λ (z : Bool). cond z (getD a k nan) Weight.zero) h
 
   pub fitted-independent : fitOf x ≡ fitOf y
   unfolding fittedOver
@@ -185,7 +185,7 @@ module _ (n : ℕ) (r : List ℕ) (x y : Input) (D : DifferRetired n r x y) (nur
       let R = ready-loaded n TwoClass (x .matrix) (x .labels) (x .ceilings) (kept r (x .weights) n) (kept r (x .terms) n) (scratchOf d) M lf lu ly in
       let R' = ready-loaded n TwoClass (y .matrix) (y .labels) (y .ceilings) (kept r (y .weights) n) (kept r (y .terms) n) (scratchOf d) M' lf lu ly in
       let A =
-      lent-alike n TwoClass r x y D (scratchOf d) lf lu ly (kept r (x .weights) n) (kept r (x .terms) n) (kept r (y .weights) n) (kept r (y .terms) n) (kept-is (x .weights)) (kept-is (y .weights))
+      lent-alike n TwoClass r x y D (scratchOf d) lf lu ly (kept r (x .weights) n) (kept r (x .terms) n) (kept r (y .weights) n) (kept r (y .terms) n) (kept-place r n most (x .weights)) (kept-place r n most (y .weights))
       (λ k l h. kept-stands (x .terms) k l h ∙ D .terms k l h ∙ sym (kept-stands (y .terms) k l h))
       in
       answered-same (standsIn r) g budget d (trainedOver (standsIn r) g (x .matrix) (x .ceilings) budget s) (trainedOver (standsIn r) g (y .matrix) (y .ceilings) budget t)

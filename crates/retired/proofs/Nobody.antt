@@ -35,7 +35,8 @@ use Rattle.state.specs.Lists.{state}
 use Rattle.retired.specs.Coded.{silenced, withObj, solvedSilent, fittedSilent}
 use Rattle.retired.specs.Differ.{Input}
 use Rattle.retired.specs.Entry.{standsIn, kept, fittedOver, retiredSized, retiredOf}
-use Rattle.retired.proofs.Coded.{kept-place, silenced-place, silent-is}
+use Rattle.retired.proofs.Coded.{silenced-place, silent-is}
+use Rattle.retired.proofs.Independent.{kept-place}
 
 -- lists that agree in their first places load the same
 loaded-same : (n : ℕ) (c a a' p p' f : List Float) (k : ℕ) → ((j : ℕ) → j < k → getD a j nan ≡ getD a' j nan) → ((j : ℕ) → j < k → getD p j nan ≡ getD p' j nan)

@@ -8,7 +8,8 @@ use lib.ListN.{length, length-set}
 use Rattle.fits.specs.Load.{loadedFloats}
 use Rattle.retired.specs.Entry.{kept}
 use Rattle.retired.specs.Coded.{silenced}
-use Rattle.retired.proofs.Coded.{kept-place, silenced-place}
+use Rattle.retired.proofs.Coded.{silenced-place}
+use Rattle.retired.proofs.Independent.{kept-place}
 use borrow.Author.Needs.{needs}
 use Rattle.fit_retired.proofs.load_floats.Statement.{statement}
 use Rattle.fit_retired.proofs.load_floats.Tie as tie
