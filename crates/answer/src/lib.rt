@@ -3,7 +3,7 @@ ghost use mathlib.Core.Path.{_≡_};
 ghost use mathlib.Core.Bool.{Bool, true, false};
 ghost use Prim.Native.Nat.{ℕ, _+_, _*_, _≤_, _<_};
 ghost use lib.ListN.{length};
-ghost use Rattle.readings.specs.Order.{Within, crateReading, homeReading, weightIn};
+ghost use Rattle.readings.specs.Order.{NamesSamples, crateReading, homeReading, weightIn};
 ghost use Rattle.solver.specs.Run.{Full, full};
 ghost use Rattle.state.specs.Lists.{State, state};
 ghost use Rattle.answer.specs.Answer.{signedBy, coefficientOf, finishedTo, countedBy, supportOf, rhoOf, objOf, ratioOf, reasonOf};
@@ -154,7 +154,7 @@ fn read_both(
     how: Finish,
     r: f64,
 )
-    requires { ⌜ (n ≤ 512) × (n ≤ length (now cr)) × (n ≤ length (now h)) × (7 * n ≤ length (now f)) × (Within n (now u)) × (n ≤ length (now l)) ⌝ }
+    requires { ⌜ (n ≤ 512) × (n ≤ length (now cr)) × (n ≤ length (now h)) × (7 * n ≤ length (now f)) × (NamesSamples n (now u)) × (n ≤ length (now l)) ⌝ }
     ensures { λ _. ⌜ (now (cr .exit) ≡ finishedTo how (now (l .entry)) r (crateReading n (now (u .entry)) (weightIn n (now (f .entry))) (now (cr .entry))) n)
         × (now (h .exit) ≡ finishedTo how (now (l .entry)) r (homeReading n (now (u .entry)) (weightIn n (now (f .entry))) (now (h .entry))) n) ⌝ }
 {
@@ -177,7 +177,7 @@ pub fn settle(
     budget: usize,
     r: Run,
 ) -> Outcome
-    requires { ⌜ (g .n ≤ 512) × (r .active ≤ g .n) × (g .n ≤ length (now cr)) × (g .n ≤ length (now h)) × (7 * g .n ≤ length (now f)) × (Within (g .n) (now u))
+    requires { ⌜ (g .n ≤ 512) × (r .active ≤ g .n) × (g .n ≤ length (now cr)) × (g .n ≤ length (now h)) × (7 * g .n ≤ length (now f)) × (NamesSamples (g .n) (now u))
         × (g .n ≤ length (now y)) × (g .n ≤ length (now l)) ⌝ }
     ensures { λ o. ⌜ _≡_ {A = Read} (read o (now (cr .exit)) (now (h .exit)))
         (settledOf g how (now (l .entry)) budget (full r (now (f .entry)) (now (u .entry)) (now (y .entry))) (now (cr .entry)) (now (h .entry))) ⌝ }

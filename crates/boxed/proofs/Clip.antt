@@ -9,7 +9,7 @@ use Rattle.alpha.specs.Weight.{zero, weight}
 use Rattle.rounding.specs.Units.{Number, plus, Parts}
 use Rattle.rounding.proofs.Units.{zero-parts}
 use Rattle.rounding.proofs.Binary64.{limit-parts, limit-room, zero-is}
-use Rattle.update.specs.Pair.{pair, iCapped, jCapped, iRaised, jRaised, differLow, differHigh, differed, agreeFirst, agreeSecond, agreed, stepped}
+use Rattle.update.specs.Pair.{pair, iCapped, jCapped, iRaised, jRaised, differLow, differHigh, differed, agreeFirst, agreeSecond, agreed, clippedStep}
 use Rattle.update.specs.declared.Pair.{Pair}
 use Rattle.boxed.specs.Range.{Ceiling, In, BothHeld}
 use Rattle.boxed.proofs.Range.{Top, Inside, top-of, inside-of, of-inside, inside-zero, inside-top}
@@ -127,8 +127,8 @@ module _ (b : Float) where
     unfolding agreed
     agreed-both = over Halfway (λ p. Under Both (agreeSecond p (add binary64 x y))) _ first second
 
-    stepped-both : (agree : Bool) → Under Both (stepped agree (at x y) d)
-    unfolding stepped
+    stepped-both : (agree : Bool) → Under Both (clippedStep agree (at x y) d)
+    unfolding clippedStep
     stepped-both true = agreed-both
     stepped-both false = differed-both
 
@@ -145,11 +145,11 @@ module _ (b : Float) (c : Ceiling b) where
   inside h = inside-of Z top (h .number) (h .low) (h .high)
 
   -- any step that is no NaN, an infinity too
-  pub stepped-held : (agree : Bool) (p : Pair) (d : Float) → BothHeld b p → Number binary64 d → BothHeld b (stepped agree p d)
+  pub stepped-held : (agree : Bool) (p : Pair) (d : Float) → BothHeld b p → Number binary64 d → BothHeld b (clippedStep agree p d)
   stepped-held agree p d h D =
-      over b (Both b) (λ p. BothHeld b (stepped agree p d)) p
+      over b (Both b) (λ p. BothHeld b (clippedStep agree p d)) p
       (record { upper-i = h .i .upper; upper-j = h .j .upper; values = (inside (h .i .value), inside (h .j .value)) })
-      (λ u v g. back (stepped agree (at b u v) d) (stepped-both b top (g .0) (g .1) D agree))
+      (λ u v g. back (clippedStep agree (at b u v) d) (stepped-both b top (g .0) (g .1) D agree))
     where
       back : (p : Pair) → Under b (Both b) p → BothHeld b p
       back p g = record {

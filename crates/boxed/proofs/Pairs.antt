@@ -16,7 +16,7 @@ use Rattle.choose_nu.proofs.Rule as Nu
 use Rattle.extreme.specs.declared.Choice.the-variants.{Pair}
 use Rattle.partner.specs.Curvature.{gapOf}
 use Rattle.partner.specs.Sides.{riseOf}
-use Rattle.rounding.specs.Units.{Real}
+use Rattle.rounding.specs.Units.{NotNan}
 use Rattle.state.specs.Fields.{gradient, alpha, diagonal, row, positive, bound}
 use Rattle.state.specs.Lists.{Problem, State}
 use Rattle.update.specs.Update.{pairAt}
@@ -35,13 +35,13 @@ ahead false false gi gj h = inr h
 module _ (p : Problem) (s : State) (floor eps : Float) (a i j : ℕ) where
   pub chosen-c : choiceC p s floor eps a ≡ Pair i j → Chosen (Bool·beq (positive s i) (positive s j)) (gradient p s i) (gradient p s j)
   chosen-c e =
-      let r = C.pair-rule p s a floor eps i j e in
-      ahead (positive s i) (positive s j) (gradient p s i) (gradient p s j) (rw (r .0 .value-is) at (r .0 .partner .after .ahead))
+      let r = C.pair-rule p s a floor eps i j .0 e .1 .second in
+      ahead (positive s i) (positive s j) (gradient p s i) (gradient p s j) (r .after .ahead)
 
   pub chosen-nu : choiceNu p s floor eps a ≡ Pair i j → Chosen (Bool·beq (positive s i) (positive s j)) (gradient p s i) (gradient p s j)
   chosen-nu e =
-      let r = Nu.pair-rule p s a floor eps i j e in
-      ahead (positive s i) (positive s j) (gradient p s i) (gradient p s j) (rw (r .0 .value-is) at (r .0 .partner .after .ahead))
+      let r = Nu.pair-rule p s a floor eps i j .0 e .1 .second in
+      ahead (positive s i) (positive s j) (gradient p s i) (gradient p s j) (r .after .ahead)
 
 -- label bytes that are 0 or 1 are equal exactly where the signs are
 pub labels-agree : (x y : ℕ) → x ≤ 1 → y ≤ 1 → eqb x y ≡ Bool·beq (eqb x 1) (eqb y 1)
@@ -68,20 +68,20 @@ module _ (p : Problem) (s : State) (floor : Float) (i j : ℕ) where
     pub entry : Entry (row p s i j)
     pub above : Divides floor
 
-  step-real-at : Plain → Chosen (Bool·beq (positive s i) (positive s j)) (gradient p s i) (gradient p s j) → Real (deltaAt p s floor i j)
+  step-real-at : Plain → Chosen (Bool·beq (positive s i) (positive s j)) (gradient p s i) (gradient p s j) → NotNan (deltaAt p s floor i j)
   step-real-at w h =
       step-real alike (gradient p s i) (gradient p s j) _ (rw (labels-agree (getD (s .labels) i 0) (getD (s .labels) j 0) (w .label-i) (w .label-j)) h)
       (curvature-divides alike (diagonal p s i) (diagonal p s j) (row p s i j) floor (w .diagonal-i) (w .diagonal-j) (w .entry) (w .above))
 
   -- no step of a pair that the choice gives is NaN
-  pub no-nan-c : (eps : Float) (a : ℕ) → Plain → choiceC p s floor eps a ≡ Pair i j → Real (deltaAt p s floor i j)
+  pub no-nan-c : (eps : Float) (a : ℕ) → Plain → choiceC p s floor eps a ≡ Pair i j → NotNan (deltaAt p s floor i j)
   no-nan-c eps a w e = step-real-at w (chosen-c p s floor eps a i j e)
 
-  pub no-nan-nu : (eps : Float) (a : ℕ) → Plain → choiceNu p s floor eps a ≡ Pair i j → Real (deltaAt p s floor i j)
+  pub no-nan-nu : (eps : Float) (a : ℕ) → Plain → choiceNu p s floor eps a ≡ Pair i j → NotNan (deltaAt p s floor i j)
   no-nan-nu eps a w e = step-real-at w (chosen-nu p s floor eps a i j e)
 
   -- and under one ceiling such a step leaves both weights in the box
-  pub pair-in-box : (b : Float) (bs : List Float) → Ceiling b → Held b (weight (alpha p s i .value) (bound bs i)) → Held b (weight (alpha p s j .value) (bound bs j)) → Real (deltaAt p s floor i j)
+  pub pair-in-box : (b : Float) (bs : List Float) → Ceiling b → Held b (weight (alpha p s i .value) (bound bs i)) → Held b (weight (alpha p s j .value) (bound bs j)) → NotNan (deltaAt p s floor i j)
       → BothHeld b (pairAt p bs floor s i j)
   unfolding pairAt
   pair-in-box b bs c hi hj h = pair-held b c _ _ hi hj (gradient p s i) (gradient p s j) (diagonal p s i) (diagonal p s j) (row p s i j) alike floor h

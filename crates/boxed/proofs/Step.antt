@@ -7,7 +7,7 @@ use lib.Ieee.Fits.{add-fits}
 use lib.Ieee.Scale.{finite}
 use Rattle.alpha.specs.Weight.{zero, two, limit}
 use Rattle.alpha.specs.Weight as Weight
-use Rattle.rounding.specs.Units.{Real, Within}
+use Rattle.rounding.specs.Units.{NotNan, Within}
 use Rattle.rounding.proofs.Order.{neg-neg, le-real, lt-real, not-le}
 use Rattle.rounding.proofs.Units.{neg-parts, zero-parts}
 use Rattle.rounding.proofs.NoNan.{within-of, within-add, within-sub, within-twice, within-finite, div-real, sub-real}
@@ -35,7 +35,7 @@ curvature-within agree di dj r ei ej e = go agree
     go true = within-sub binary64 2075 (add binary64 di dj) (mul binary64 two r) (lit< tt) sum (twice-within r e)
     go false = within-add binary64 2075 (add binary64 di dj) (mul binary64 two r) (lit< tt) sum (twice-within r e)
 
-zero-real : Real zero
+zero-real : NotNan zero
 zero-real = rw zero-is (zero-parts binary64 false .number .real)
 
 floored-divides : (floor q : Float) → Divides floor → Within binary64 2076 q → Divides (floored floor q)
@@ -56,19 +56,19 @@ floor-divides = record { finite = floor-above .1; above = rw zero-is (floor-abov
 
 -- ---- the step
 
-add-real : (x y : Float) → Real (sub binary64 (neg x) y) → Real (add binary64 x y)
+add-real : (x y : Float) → NotNan (sub binary64 (neg x) y) → NotNan (add binary64 x y)
 unfolding sub
 add-real x y h = rw (neg-neg y) at (sub-real binary64 x (neg y) h)
 
-neg-real : (x y : Float) → Real (add binary64 x y) → Real (neg (add binary64 x y))
+neg-real : (x y : Float) → NotNan (add binary64 x y) → NotNan (neg (add binary64 x y))
 neg-real x y h = neg-parts binary64 (add binary64 x y) (record { fit = add-fits binary64 x y; real = h }) .number .real
 
-dividend-real : (agree : Bool) (gi gj : Float) → Chosen agree gi gj → Real (cond agree (sub binary64 gi gj) (neg (add binary64 gi gj)))
+dividend-real : (agree : Bool) (gi gj : Float) → Chosen agree gi gj → NotNan (cond agree (sub binary64 gi gj) (neg (add binary64 gi gj)))
 dividend-real true gi gj (inl h) = sub-real binary64 gi gj (lt-real zero (add binary64 (neg gi) gj) h .1)
 dividend-real true gi gj (inr h) = lt-real zero (sub binary64 gi gj) h .1
 dividend-real false gi gj (inl h) = neg-real gi gj (add-real gi gj (lt-real zero (sub binary64 (neg gi) gj) h .1))
 dividend-real false gi gj (inr h) = neg-real gi gj (lt-real zero (add binary64 gi gj) h .1)
 
-pub step-real : (agree : Bool) (gi gj q : Float) → Chosen agree gi gj → Divides q → Real (stepOf agree gi gj q)
+pub step-real : (agree : Bool) (gi gj q : Float) → Chosen agree gi gj → Divides q → NotNan (stepOf agree gi gj q)
 unfolding stepOf
 step-real agree gi gj q h d = div-real binary64 _ q (dividend-real agree gi gj h) (d .finite) (rw zero-is at (d .above))

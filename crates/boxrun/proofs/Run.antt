@@ -12,19 +12,19 @@ use Rattle.choose_c.specs.Choice.{choiceC}
 use Rattle.choose_nu.specs.Choice.{choiceNu}
 use Rattle.extreme.specs.declared.Choice.the-variants.{Pair}
 use Rattle.reconstruct.specs.Reconstruct.{reconstructed}
-use Rattle.rounding.specs.Units.{Real}
+use Rattle.rounding.specs.Units.{NotNan}
 use Rattle.solver.specs.End.{trained}
 use Rattle.solver.specs.Pass.{chosen, countedDown, runs}
 use Rattle.solver.specs.Run.{problemOf, Full}
 use Rattle.solver.specs.declared.Given.{Given}
 use Rattle.solver.proofs.Laws.{chosen-below}
 use Rattle.state.specs.Fields.{alpha}
-use Rattle.state.specs.Lists.{Problem, State}
+use Rattle.state.specs.Lists.{Problem, State, over}
 use Rattle.state.specs.Moving.{moved}
 use Rattle.trace.specs.Trace.{lookAt, pairFrom, startOf}
 use Rattle.trace.proofs.Kept.{Keeps, chosen-apart, counted-keeps, look-keeps, runs-keeps, trained-keeps}
 use Rattle.trace.proofs.Passes.{pair-look}
-use Rattle.update.specs.Update.{over, updatedState}
+use Rattle.update.specs.Update.{updatedState}
 use Rattle.boxrun.specs.Boxed.{OneCeiling, LentBoxed, Boxed}
 use Rattle.boxrun.proofs.Kept.{boxed-reconstructed}
 use Rattle.boxrun.proofs.Moved.{boxed-moved}
@@ -39,7 +39,7 @@ module _ (g : Given) (m : List ℕ) {b : Float} {bs : List Float} (o : OneCeilin
   B = Boxed b p
 
   -- the step of a pair that is chosen is no NaN
-  step-real : (w : Full) (i j : ℕ) → chosen g m w ≡ Pair i j → Keeps g B w → Real (deltaAt p (w .state) (g .floor) i j)
+  step-real : (w : Full) (i j : ℕ) → chosen g m w ≡ Pair i j → Keeps g B w → NotNan (deltaAt p (w .state) (g .floor) i j)
   unfolding chosen
   step-real w i j e h = go (g .nu) e
     where
@@ -50,7 +50,7 @@ module _ (g : Given) (m : List ℕ) {b : Float} {bs : List Float} (o : OneCeilin
       hj = let q = chosen-below g m w i j e in let a = h .active in omega (arith, q .1)
 
       go : (x : Bool) → cond x (choiceNu p (w .state) (g .floor) (g .eps) (w .run .active)) (choiceC p (w .state) (g .floor) (g .eps) (w .run .active)) ≡ Pair i j
-          → Real (deltaAt p (w .state) (g .floor) i j)
+          → NotNan (deltaAt p (w .state) (g .floor) i j)
       go true q = no-nan-nu p (w .state) (g .floor) i j (g .eps) (w .run .active) (plain o (h .kept) i j hi hj) q
       go false q = no-nan-c p (w .state) (g .floor) i j (g .eps) (w .run .active) (plain o (h .kept) i j hi hj) q
 
@@ -79,12 +79,12 @@ module _ (g : Given) (m : List ℕ) {b : Float} {bs : List Float} (o : OneCeilin
 
   -- the pair that is chosen there steps by no NaN
   pub no-nan-chosen : (s : State) → LentBoxed b p s → (t i j : ℕ) → chosen g m (runs g m bs (startOf g m bs s) t) ≡ Pair i j
-      → Real (deltaAt p (runs g m bs (startOf g m bs s) t .state) (g .floor) i j)
+      → NotNan (deltaAt p (runs g m bs (startOf g m bs s) t .state) (g .floor) i j)
   no-nan-chosen s h t i j e = step-real (runs g m bs (startOf g m bs s) t) i j e (box-runs s h t)
 
   -- no step is NaN: where the pass after t steps with i and j, it steps from its last look
   pub no-nan-runs : (s : State) → LentBoxed b p s → (t i j : ℕ) → pairFrom g m (runs g m bs (startOf g m bs s) t) ≡ Pair i j
-      → Real (deltaAt p (lookAt g m (countedDown g m (runs g m bs (startOf g m bs s) t)) .state) (g .floor) i j)
+      → NotNan (deltaAt p (lookAt g m (countedDown g m (runs g m bs (startOf g m bs s) t)) .state) (g .floor) i j)
   no-nan-runs s h t i j e =
       let w = runs g m bs (startOf g m bs s) t in
       let v = countedDown g m w in

@@ -15,7 +15,7 @@ use Rattle.boxed.proofs.Pairs.{Plain, pair-in-box}
 use Rattle.kernel.specs.Matrix.{entryAt}
 use Rattle.kernel.specs.Row.{kernelIndex, alikeOf, signedOf, rowAt}
 use Rattle.kernel.proofs.Inside.{inside}
-use Rattle.rounding.specs.Units.{Real, Number}
+use Rattle.rounding.specs.Units.{NotNan, Number}
 use Rattle.rounding.proofs.Binary64.{limit-parts}
 use Rattle.rounding.proofs.Order.{le-real}
 use Rattle.rounding.proofs.Units.{compare, neg-parts}
@@ -88,7 +88,7 @@ module _ {p : Problem} {floor b : Float} {bs : List Float} (o : OneCeiling p flo
   placed : (k : ℕ) → k < p .n → Held b (weight (alpha p s k .value) (bound bs k))
   placed k h = record { upper = o .places k h; value = w .lent .held k h .value }
 
-  pub boxed-updated : (i j a : ℕ) → i < p .n → j < p .n → a ≤ p .n → (i ≡ j → ⊥) → Real (deltaAt p s floor i j) → Boxed b p (updatedState p bs floor s i j a)
+  pub boxed-updated : (i j a : ℕ) → i < p .n → j < p .n → a ≤ p .n → (i ≡ j → ⊥) → NotNan (deltaAt p s floor i j) → Boxed b p (updatedState p bs floor s i j a)
   boxed-updated i j a hi hj ha d h = record {
     lent = record {
       ready = ready-floats (w .lent .ready) (updated p bs floor s i j a) (length-updated p bs floor s i j a);

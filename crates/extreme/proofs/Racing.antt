@@ -6,7 +6,7 @@ use native.Mathlib.Omega.{arith}
 use borrow.Author.Tests.{lt-ltb}
 use lib.Dec.{T, T-not, ltb, ltb→lt}
 use lib.Ieee.{Float, inf, isNan}
-use Rattle.rounding.specs.Units.{Real}
+use Rattle.rounding.specs.Units.{NotNan}
 use Rattle.rounding.proofs.Order.{holds, fails, le-real, lt→le, le-refl, le-trans, not-lt}
 use Rattle.extreme.specs.Best.{nobody, held, atMost, weighed}
 use Rattle.extreme.specs.Racing.{racing, below, raced, foundIn}
@@ -17,11 +17,11 @@ use Rattle.extreme.specs.declared.Race.{Race}
 -- a test, its strict half, and where it starts
 pub record Halves (strict takes : Float → Float → Bool) (start : Float) : Type 0 where
   pub through : (x y z : Float) → T (takes x y) → T (takes y z) → T (takes x z)
-  pub itself : (x : Float) → Real x → T (takes x x)
-  pub reals : (x y : Float) → T (takes x y) → Real x × Real y
+  pub itself : (x : Float) → NotNan x → T (takes x x)
+  pub reals : (x y : Float) → T (takes x y) → NotNan x × NotNan y
   pub weak : (x y : Float) → T (strict x y) → T (takes x y)
   pub turn : (x y : Float) → T (takes x y) → T (not (strict x y)) → T (takes y x)
-  pub real : Real start
+  pub real : NotNan start
 
 pub least-halves : Halves below atMost (inf false)
 unfolding isNan

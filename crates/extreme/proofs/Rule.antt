@@ -2,11 +2,12 @@
 use Prim.Native.Nat.{ℕ, zero, suc, _<_, suc-le-suc, zero-le}
 use mathlib.Core.Bool.{Bool, true, false, not, _&&_, cond}
 use mathlib.Core.Logic.{_⊎_, inl, inr, ⊎-elim, _↔_}
-use mathlib.Core.Path.{_≡_, refl, sym, subst, ap₂}
+use mathlib.Core.Path.{_≡_, refl, sym, subst, ap₂, _∙_}
 use native.Mathlib.Omega.{arith}
 use lib.Dec.{T, T-not}
-use lib.Ieee.{Float}
+use lib.Ieee.{Float, inf}
 use Rattle.extreme.specs.Best.{held, weighed, best, Below}
+use Rattle.extreme.specs.Rule.{Top}
 use Rattle.extreme.specs.declared.Extreme.{Extreme}
 use Rattle.extreme.specs.declared.Found.{Found}
 use Rattle.extreme.specs.declared.Found.the-variants.{At, Nobody}
@@ -33,6 +34,48 @@ reworded h n r =
       nobody = (λ q. n .0 (r .nobody .0 q), λ z. r .nobody .1 (n .1 z));
     }
 
+-- an extreme in words: its holder is the one that holds, and its value is his, or the start's where nobody does
+pub record Words (start : Float) (value : ℕ → Float) (Holds : ℕ → Type 0) (e : Extreme) : Type 0 where
+  pub named : (i : ℕ) → (e .holder ≡ At i) ↔ Holds i
+  pub one : (i j : ℕ) → Holds i → Holds j → i ≡ j
+  pub nobody : (e .holder ≡ Nobody) ↔ ((i : ℕ) → Holds i → ⊥)
+  pub value-is : (i : ℕ) → e .holder ≡ At i → e .value ≡ value i
+  pub start-is : e .holder ≡ Nobody → e .value ≡ start
+
+-- where one holds at the most, and nobody only where there is none
+pub in-words : {start : Float} {value : ℕ → Float} {Holds : ℕ → Type 0} {None : Type 0} {e : Extreme} → Rule start value Holds None e
+    → ((i j : ℕ) → Holds i → Holds j → i ≡ j) → ((i : ℕ) → Holds i → None → ⊥) → Words start value Holds e
+in-words {Holds = Holds} {e = e} r one some =
+    record {
+      named = λ i. (r .holds i, held i (e .holder) refl);
+      one = one;
+      nobody = (λ q i h. some i h (r .nobody .0 q), none (e .holder) refl);
+      value-is = r .value-is;
+      start-is = r .start-is;
+    }
+  where
+    held : (i : ℕ) (f : Found) → e .holder ≡ f → Holds i → e .holder ≡ At i
+    held i (At k) q h = rw (one i k h (r .holds k q)) q
+    held i Nobody q h = absurd (some i h (r .nobody .0 q))
+
+    none : (f : Found) → e .holder ≡ f → ((i : ℕ) → Holds i → ⊥) → e .holder ≡ Nobody
+    none (At k) q z = absurd (z k (r .holds k q))
+    none Nobody q z = q
+
+module _ {value : ℕ → Float} {Holds : ℕ → Type 0} {e : Extreme} (w : Words (inf true) value Holds e) where
+  -- its value is the extreme of the words
+  pub top-of : Top Holds value (e .value)
+  top-of = go (e .holder) refl
+    where
+      go : (f : Found) → e .holder ≡ f → Top Holds value (e .value)
+      go (At i) q = inl (i, w .named i .0 q, w .value-is i q)
+      go Nobody q = inr (w .nobody .0 q, w .start-is q)
+
+  -- and no other is
+  pub top-is : (x : Float) → Top Holds value x → e .value ≡ x
+  top-is x (inl (i, h, q)) = w .value-is i (w .named i .1 h) ∙ sym q
+  top-is x (inr (z, q)) = w .start-is (w .nobody .1 z) ∙ sym q
+
 -- ---- any test
 
 -- what is asked of a test: it is transitive, and what takes the place of x also takes that of an entrant which didn't take x's
@@ -57,15 +100,15 @@ module _ (takes : Float → Float → Bool) (start : Float) (may : ℕ → Bool)
   Ruled m v Nobody = (v ≡ start) × Shut m
   Ruled m v (At i) = (v ≡ value i) × Holds m i
 
+pub side : (k i : ℕ) → (k ≡ i) ⊎ ((k < i) ⊎ (i < k))
+side zero zero = inl refl
+side zero (suc i) = inr (inl (suc-le-suc zero-le))
+side (suc k) zero = inr (inr (suc-le-suc zero-le))
+side (suc k) (suc i) = ⊎-elim (λ e. inl (rw e)) (⊎-elim (λ h. inr (inl (suc-le-suc h))) (λ h. inr (inr (suc-le-suc h)))) (side k i)
+
 -- what holds below i, at i and above i holds of all
 pub around : (P : ℕ → Type 0) (i m : ℕ) → ((k : ℕ) → k < i → P k) → P i → ((k : ℕ) → i < k → k < m → P k) → (k : ℕ) → k < m → P k
 around P i m low here high k l = ⊎-elim (λ e. subst P (sym e) here) (⊎-elim (low k) (λ h. high k h l)) (side k i)
-  where
-    side : (k i : ℕ) → (k ≡ i) ⊎ ((k < i) ⊎ (i < k))
-    side zero zero = inl refl
-    side zero (suc i) = inr (inl (suc-le-suc zero-le))
-    side (suc k) zero = inr (inr (suc-le-suc zero-le))
-    side (suc k) (suc i) = ⊎-elim (λ e. inl (rw e)) (⊎-elim (λ h. inr (inl (suc-le-suc h))) (λ h. inr (inr (suc-le-suc h)))) (side k i)
 
 upto : (P : ℕ → Type 0) (m : ℕ) → ((k : ℕ) → k < m → P k) → P m → (k : ℕ) → k < suc m → P k
 upto P m all here = around P m (suc m) all here (λ k h l. absurd (omega arith))

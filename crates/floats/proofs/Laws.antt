@@ -10,7 +10,7 @@ use lib.Pow.{pow-pos}
 use lib.Ieee.{Float, nan, inf, fin, Format, low, up, down, lt, le, isNan, fits, toUnsigned}
 use lib.Ieee.Fits.{down-pos}
 use lib.Ieee.Scale.{finite}
-use Rattle.rounding.specs.Units.{Real, Number, Parts, plus, minus, magnitude}
+use Rattle.rounding.specs.Units.{NotNan, Number, Parts, plus, minus, magnitude}
 use Rattle.rounding.proofs.Order.{le-refl, lt→le, lt-real, not-lt}
 use Rattle.rounding.proofs.Units.{value}
 use Rattle.floats.specs.Helpers.{maxOf, minOf, absOf}
@@ -18,17 +18,17 @@ use Rattle.floats.specs.Helpers.{maxOf, minOf, absOf}
 -- ---- max and min: z is x or y, a NaN is passed over, no number of the two is R-beyond z, and of equals z is the first
 pub record Picks (R : Float → Float → Bool) (x y z : Float) : Type 0 where
   pub one-of : (z ≡ x) ⊎ (z ≡ y)
-  pub number : Real x ⊎ Real y → Real z
-  pub first : Real x → T (R x z)
-  pub second : Real y → T (R y z)
-  pub tie : Real x → T (not (lt x y)) → T (not (lt y x)) → z ≡ x
+  pub number : NotNan x ⊎ NotNan y → NotNan z
+  pub first : NotNan x → T (R x z)
+  pub second : NotNan y → T (R y z)
+  pub tie : NotNan x → T (not (lt x y)) → T (not (lt y x)) → z ≡ x
 
-module _ (R : Float → Float → Bool) (itself : (x : Float) → Real x → T (R x x)) (x y : Float) where
+module _ (R : Float → Float → Bool) (itself : (x : Float) → NotNan x → T (R x x)) (x y : Float) where
   -- by the two tests: x is a NaN, and y is to be taken
-  picks : (a b : Bool) → isNan x ≡ a → (T b → Real y × T (R x y)) → (T (not b) → Real x → Real y → T (R y x)) → (T b → T (not (lt x y)) → T (not (lt y x)) → ⊥)
+  picks : (a b : Bool) → isNan x ≡ a → (T b → NotNan y × T (R x y)) → (T (not b) → NotNan x → NotNan y → T (R y x)) → (T b → T (not (lt x y)) → T (not (lt y x)) → ⊥)
       → Picks R x y (cond a y (cond b y x))
   picks true b e s k d =
-      let no : Real x → ⊥ = λ p. subst (λ (c : Bool). T (not c)) e p in
+      let no : NotNan x → ⊥ = λ p. subst (λ (c : Bool). T (not c)) e p in
       record {
         one-of = inr refl;
         number = λ h. elim h [ inl p ↦ absurd (no p) | inr q ↦ q ];
@@ -39,7 +39,7 @@ module _ (R : Float → Float → Bool) (itself : (x : Float) → Real x → T (
   picks false true e s k d =
       record { one-of = inr refl; number = λ h. s tt .0; first = λ p. s tt .1; second = itself y; tie = λ p t u. absurd (d tt t u) }
   picks false false e s k d =
-      let p : Real x = subst (λ (c : Bool). T (not c)) (sym e) tt in
+      let p : NotNan x = subst (λ (c : Bool). T (not c)) (sym e) tt in
       record { one-of = inl refl; number = λ h. p; first = itself x; second = k tt p; tie = λ q t u. refl }
 
 pub max-picks : (x y : Float) → Picks le x y (maxOf x y)

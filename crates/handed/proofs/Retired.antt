@@ -30,7 +30,7 @@ use Rattle.retired.specs.Differ.{Input, DifferRetired}
 use Rattle.retired.specs.Entry.{standsIn, kept, retiredSized}
 use Rattle.retired.proofs.Independent.{Taken, sized-taken, taken-independent}
 use Rattle.retired.proofs.Nobody.{sized-nobody}
-use Rattle.rounding.specs.Units.{Real}
+use Rattle.rounding.specs.Units.{NotNan}
 use Rattle.rounding.proofs.Order.{both}
 use Rattle.travel.specs.Travel.{Travelled}
 use Rattle.wire.specs.Wire.{digits}
@@ -119,7 +119,7 @@ module _ (n : ℕ) (m l c a p r : List ℕ) (nurule eps shrinking budget : ℕ) 
     pub retired-called-box : (q i : ℕ) → i < n → standsIn r i ≡ true → In b (weightOver (standsIn r) k m room q i)
     retired-called-box = taken-box called-taken b fit same fit-a
 
-    pub retired-called-no-nan : (q i j : ℕ) → pairOver (standsIn r) k m room q ≡ Pair i j → Real (deltaOver (standsIn r) k m room q i j)
+    pub retired-called-no-nan : (q i j : ℕ) → pairOver (standsIn r) k m room q ≡ Pair i j → NotNan (deltaOver (standsIn r) k m room q i j)
     retired-called-no-nan = taken-no-nan called-taken b fit same fit-a
 
     pub retired-called-home-box : (s : ℕ) → s < n → standsIn r s ≡ true → In b (ownOver (standsIn r) k m room budget s)

@@ -16,8 +16,8 @@ use Rattle.kernel.specs.Matrix.{Matrix}
 use Rattle.rounding.proofs.Order.{holds, le-real, both}
 use Rattle.wire.specs.Wire.{digits, floatAt}
 use Rattle.judge.specs.declared.Judged.the-variants.{Fine}
-use Rattle.judge.specs.Judge.{first, need, after, isCeiling, entryGood, labelGood, ceilingGood, costGood, alphaGood, linearGood, epsGood, nuGood, budgetGood, bytesGood, samplesJudged, generalJudged, cJudged, nuJudged, oneClassJudged}
-use Rattle.judge.proofs.First.{first-fine, need-fine, after-fine}
+use Rattle.judge.specs.Judge.{first, need, andThen, isCeiling, entryGood, labelGood, ceilingGood, costGood, alphaGood, linearGood, epsGood, nuGood, budgetGood, bytesGood, samplesJudged, generalJudged, cJudged, nuJudged, oneClassJudged}
+use Rattle.judge.proofs.First.{first-fine, need-fine, and-then-fine}
 
 -- ---- what a good place says
 
@@ -92,15 +92,15 @@ pub general-fine : (n : ℕ) (m l : List ℕ) (c a p : List Float) (eps : Float)
 unfolding generalJudged
 general-fine n m l c a p eps budget h =
     let j4 = samplesJudged n m l in
-    let j5 = after j4 (first 5 (ceilingGood c) n 0) in
-    let j6 = after j5 (first 6 (alphaGood a c) n 0) in
-    let j7 = after j6 (first 7 (linearGood p) n 0) in
-    let h10 = after-fine (after j7 (need 8 (epsGood eps))) (need 10 (budgetGood budget)) h in
-    let h8 = after-fine j7 (need 8 (epsGood eps)) (h10 .0) in
-    let h7 = after-fine j6 (first 7 (linearGood p) n 0) (h8 .0) in
-    let h6 = after-fine j5 (first 6 (alphaGood a c) n 0) (h7 .0) in
-    let h5 = after-fine j4 (first 5 (ceilingGood c) n 0) (h6 .0) in
-    let h4 = after-fine (first 3 (entryGood m) (n * n) 0) (first 4 (labelGood l) n 0) (h5 .0) in
+    let j5 = andThen j4 (first 5 (ceilingGood c) n 0) in
+    let j6 = andThen j5 (first 6 (alphaGood a c) n 0) in
+    let j7 = andThen j6 (first 7 (linearGood p) n 0) in
+    let h10 = and-then-fine (andThen j7 (need 8 (epsGood eps))) (need 10 (budgetGood budget)) h in
+    let h8 = and-then-fine j7 (need 8 (epsGood eps)) (h10 .0) in
+    let h7 = and-then-fine j6 (first 7 (linearGood p) n 0) (h8 .0) in
+    let h6 = and-then-fine j5 (first 6 (alphaGood a c) n 0) (h7 .0) in
+    let h5 = and-then-fine j4 (first 5 (ceilingGood c) n 0) (h6 .0) in
+    let h4 = and-then-fine (first 3 (entryGood m) (n * n) 0) (first 4 (labelGood l) n 0) (h5 .0) in
     record {
       matrix = h4 .0;
       labels = h4 .1;
@@ -123,11 +123,11 @@ pub c-fine : (n : ℕ) (m l : List ℕ) (cpos cneg eps : Float) (budget : ℕ) �
 unfolding cJudged costGood
 c-fine n m l cpos cneg eps budget h =
     let j4 = samplesJudged n m l in
-    let j5 = after j4 (first 5 (costGood cpos cneg) 2 0) in
-    let h10 = after-fine (after j5 (need 8 (epsGood eps))) (need 10 (budgetGood budget)) h in
-    let h8 = after-fine j5 (need 8 (epsGood eps)) (h10 .0) in
-    let h5 = after-fine j4 (first 5 (costGood cpos cneg) 2 0) (h8 .0) in
-    let h4 = after-fine (first 3 (entryGood m) (n * n) 0) (first 4 (labelGood l) n 0) (h5 .0) in
+    let j5 = andThen j4 (first 5 (costGood cpos cneg) 2 0) in
+    let h10 = and-then-fine (andThen j5 (need 8 (epsGood eps))) (need 10 (budgetGood budget)) h in
+    let h8 = and-then-fine j5 (need 8 (epsGood eps)) (h10 .0) in
+    let h5 = and-then-fine j4 (first 5 (costGood cpos cneg) 2 0) (h8 .0) in
+    let h4 = and-then-fine (first 3 (entryGood m) (n * n) 0) (first 4 (labelGood l) n 0) (h5 .0) in
     record {
       matrix = h4 .0;
       labels = h4 .1;
@@ -148,11 +148,11 @@ pub nu-fine : (n : ℕ) (m l : List ℕ) (nu eps : Float) (budget : ℕ) → nuJ
 unfolding nuJudged
 nu-fine n m l nu eps budget h =
     let j4 = samplesJudged n m l in
-    let j8 = after j4 (need 8 (epsGood eps)) in
-    let h10 = after-fine (after j8 (need 9 (nuGood nu))) (need 10 (budgetGood budget)) h in
-    let h9 = after-fine j8 (need 9 (nuGood nu)) (h10 .0) in
-    let h8 = after-fine j4 (need 8 (epsGood eps)) (h9 .0) in
-    let h4 = after-fine (first 3 (entryGood m) (n * n) 0) (first 4 (labelGood l) n 0) (h8 .0) in
+    let j8 = andThen j4 (need 8 (epsGood eps)) in
+    let h10 = and-then-fine (andThen j8 (need 9 (nuGood nu))) (need 10 (budgetGood budget)) h in
+    let h9 = and-then-fine j8 (need 9 (nuGood nu)) (h10 .0) in
+    let h8 = and-then-fine j4 (need 8 (epsGood eps)) (h9 .0) in
+    let h4 = and-then-fine (first 3 (entryGood m) (n * n) 0) (first 4 (labelGood l) n 0) (h8 .0) in
     record {
       matrix = h4 .0;
       labels = h4 .1;
@@ -171,10 +171,10 @@ pub one-class-fine : (n : ℕ) (m : List ℕ) (nu eps : Float) (budget : ℕ) �
 unfolding oneClassJudged
 one-class-fine n m nu eps budget h =
     let j3 = first 3 (entryGood m) (n * n) 0 in
-    let j8 = after j3 (need 8 (epsGood eps)) in
-    let h10 = after-fine (after j8 (need 9 (nuGood nu))) (need 10 (budgetGood budget)) h in
-    let h9 = after-fine j8 (need 9 (nuGood nu)) (h10 .0) in
-    let h8 = after-fine j3 (need 8 (epsGood eps)) (h9 .0) in
+    let j8 = andThen j3 (need 8 (epsGood eps)) in
+    let h10 = and-then-fine (andThen j8 (need 9 (nuGood nu))) (need 10 (budgetGood budget)) h in
+    let h9 = and-then-fine j8 (need 9 (nuGood nu)) (h10 .0) in
+    let h8 = and-then-fine j3 (need 8 (epsGood eps)) (h9 .0) in
     record {
       matrix = h8 .0;
       eps-good = need-fine 8 (epsGood eps) (h8 .1);

@@ -14,7 +14,7 @@ use lib.Ieee.Digits.{Equals, odd-val, size-le}
 use lib.Ieee.Fits.{down-pos, kept-lt}
 use lib.Ieee.Scale.{overflow, finite}
 use Rattle.alpha.specs.Weight.{limit, one}
-use Rattle.rounding.specs.Units.{Real, Number, magnitude, plus, minus}
+use Rattle.rounding.specs.Units.{NotNan, Number, magnitude, plus, minus}
 use Rattle.rounding.proofs.Binary64.{limit-parts}
 use Rattle.rounding.proofs.Order.{holds}
 use Rattle.rounding.proofs.Units.{compare, magnitude-is, neg-parts, value}
@@ -24,7 +24,7 @@ use Rattle.judge.specs.Judge.{epsGood}
 
 -- no NaN, and of magnitude b units at the most
 record Small (f : Format) (x : Float) (b : ℕ) : Type 0 where
-  real : Real x
+  real : NotNan x
   most : magnitude f x ≤ b
 
 small-of : (f : Format) (x : Float) (a b : ℕ) → Equals x a (2 ^ low f) → a ≤ b → Small f x b

@@ -9,7 +9,7 @@ use native.Mathlib.Omega.{arith}
 use lib.Dec.{T}
 use Rattle.judge.specs.declared.Judged.{Judged}
 use Rattle.judge.specs.declared.Judged.the-variants.{Fine, Bad}
-use Rattle.judge.specs.Judge.{first, need, after, isBad}
+use Rattle.judge.specs.Judge.{first, need, andThen, isBad}
 
 abbrev number : Judged → ℕ
 number Fine = 0
@@ -82,30 +82,30 @@ first-bad k good (suc m) i q j h = elim (stopped (good i) (first k good m (suc i
 
 -- ---- one after the other
 
-pub after-fine : (a b : Judged) → after a b ≡ Fine → (a ≡ Fine) × (b ≡ Fine)
-unfolding after
-after-fine Fine b h = (refl, h)
-after-fine (Bad k i) b h = absurd (bad-fine h)
+pub and-then-fine : (a b : Judged) → andThen a b ≡ Fine → (a ≡ Fine) × (b ≡ Fine)
+unfolding andThen
+and-then-fine Fine b h = (refl, h)
+and-then-fine (Bad k i) b h = absurd (bad-fine h)
 
-pub fine-after : (a b : Judged) → a ≡ Fine → b ≡ Fine → after a b ≡ Fine
-unfolding after
+pub fine-after : (a b : Judged) → a ≡ Fine → b ≡ Fine → andThen a b ≡ Fine
+unfolding andThen
 fine-after a b h g = rw (h, g)
 
 -- a refusal is that of the earlier, or the earlier is fine
-pub after-bad : (a b : Judged) (q j : ℕ) → after a b ≡ Bad q j → (a ≡ Bad q j) ⊎ ((a ≡ Fine) × (b ≡ Bad q j))
-unfolding after
+pub after-bad : (a b : Judged) (q j : ℕ) → andThen a b ≡ Bad q j → (a ≡ Bad q j) ⊎ ((a ≡ Fine) × (b ≡ Bad q j))
+unfolding andThen
 after-bad Fine b q j h = inr (refl, h)
 after-bad (Bad k i) b q j h = inl h
 
 -- ---- for the code
 
-pub kept : (j x : Judged) → isBad j ≡ true → j ≡ after j x
-unfolding after
+pub kept : (j x : Judged) → isBad j ≡ true → j ≡ andThen j x
+unfolding andThen
 kept Fine x h = absurd (subst T (sym h) tt)
 kept (Bad k i) x h = refl
 
-pub turn : (j x y : Judged) → isBad j ≡ false → y ≡ x → x ≡ after j y
-unfolding after
+pub turn : (j x y : Judged) → isBad j ≡ false → y ≡ x → x ≡ andThen j y
+unfolding andThen
 turn Fine x y h e = sym e
 turn (Bad k i) x y h e = absurd (subst T h tt)
 

@@ -7,7 +7,7 @@ use lib.Ieee.{Float, binary64, ofBits, neg, lt, le}
 use Rattle.alpha.specs.Weight.{limit, zero, one}
 use Rattle.judge.specs.declared.Judged.the-variants.{Fine, Bad}
 use Rattle.judge.specs.Sizes.{sizes}
-use Rattle.judge.specs.Judge.{first, need, after, inLimit, isCeiling, isStart, labelGood, linearGood, costGood, epsGood, nuGood, budgetGood, bytesGood, generalJudged, retiredJudged}
+use Rattle.judge.specs.Judge.{first, need, andThen, inLimit, isCeiling, isStart, labelGood, linearGood, costGood, epsGood, nuGood, budgetGood, bytesGood, generalJudged, retiredJudged}
 
 -- the floats next above 2^1000 and 1, −0, +∞, and a NaN
 abbrev over : Float
@@ -76,8 +76,8 @@ nus = (refl, refl, refl, refl)
 
 -- 10, and the lower of two numbers
 pub budgets : (budgetGood 0 ≡ false) × (budgetGood 1 ≡ true) × (budgetGood 10000000 ≡ true) × (budgetGood 10000001 ≡ false)
-    × (after (need 8 false) (need 10 false) ≡ Bad 8 0) × (after (need 8 true) (need 10 false) ≡ Bad 10 0)
-unfolding budgetGood after
+    × (andThen (need 8 false) (need 10 false) ≡ Bad 8 0) × (andThen (need 8 true) (need 10 false) ≡ Bad 10 0)
+unfolding budgetGood andThen
 budgets = (refl, refl, refl, refl, refl, refl)
 
 -- 12: of the first n bytes
@@ -88,13 +88,13 @@ retireds = (refl, refl, refl)
 -- the order: what is judged before them, 12, 13
 module _ (n : ℕ) (m l : List ℕ) (c a p : List Float) (r : List ℕ) (eps : Float) (budget : ℕ) where
   pub ten-before-twelve : (q i : ℕ) (shrinking : Bool) → generalJudged n m l c a p eps budget ≡ Bad q i → retiredJudged n m l c a p r eps shrinking budget ≡ Bad q i
-  unfolding retiredJudged after
+  unfolding retiredJudged andThen
   ten-before-twelve q i shrinking h = rw h
 
   pub twelve-before-thirteen : (shrinking : Bool) → generalJudged n m l c a p eps budget ≡ Fine → bytesGood r n ≡ false → retiredJudged n m l c a p r eps shrinking budget ≡ Bad 12 0
-  unfolding retiredJudged after
+  unfolding retiredJudged andThen
   twelve-before-thirteen shrinking h g = rw (h, g)
 
   pub thirteen-last : generalJudged n m l c a p eps budget ≡ Fine → bytesGood r n ≡ true → retiredJudged n m l c a p r eps true budget ≡ Bad 13 0
-  unfolding retiredJudged after
+  unfolding retiredJudged andThen
   thirteen-last h g = rw (h, g)

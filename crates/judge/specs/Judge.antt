@@ -24,9 +24,9 @@ abbrev pub need : ℕ → Bool → Judged
 need k good = cond good Fine (Bad k 0)
 
 -- b counts only where nothing was wrong before it: the lowest number is given
-unfoldable pub after : Judged → Judged → Judged
-after Fine b = b
-after (Bad k i) b = Bad k i
+unfoldable pub andThen : Judged → Judged → Judged
+andThen Fine b = b
+andThen (Bad k i) b = Bad k i
 
 abbrev pub isBad : Judged → Bool
 isBad Fine = false
@@ -89,35 +89,35 @@ bytesGood r (suc k) = bytesGood r k && leb (getD r k 0) 1
 
 -- 3 and 4
 abbrev pub samplesJudged : ℕ → List ℕ → List ℕ → Judged
-samplesJudged n m l = after (first 3 (entryGood m) (n * n) 0) (first 4 (labelGood l) n 0)
+samplesJudged n m l = andThen (first 3 (entryGood m) (n * n) 0) (first 4 (labelGood l) n 0)
 
 -- 3 to 8 and 10
 unfoldable pub generalJudged : ℕ → List ℕ → List ℕ → List Float → List Float → List Float → Float → ℕ → Judged
 generalJudged n m l c a p eps budget =
-    let j5 = after (samplesJudged n m l) (first 5 (ceilingGood c) n 0) in
-    let j6 = after j5 (first 6 (alphaGood a c) n 0) in
-    let j7 = after j6 (first 7 (linearGood p) n 0) in
-    after (after j7 (need 8 (epsGood eps))) (need 10 (budgetGood budget))
+    let j5 = andThen (samplesJudged n m l) (first 5 (ceilingGood c) n 0) in
+    let j6 = andThen j5 (first 6 (alphaGood a c) n 0) in
+    let j7 = andThen j6 (first 7 (linearGood p) n 0) in
+    andThen (andThen j7 (need 8 (epsGood eps))) (need 10 (budgetGood budget))
 
 -- .. 12 and 13: r are the retired bytes
 unfoldable pub retiredJudged : ℕ → List ℕ → List ℕ → List Float → List Float → List Float → List ℕ → Float → Bool → ℕ → Judged
 retiredJudged n m l c a p r eps shrinking budget =
-    after (after (generalJudged n m l c a p eps budget) (need 12 (bytesGood r n))) (need 13 (not shrinking))
+    andThen (andThen (generalJudged n m l c a p eps budget) (need 12 (bytesGood r n))) (need 13 (not shrinking))
 
 -- 3, 4, 5, 8 and 10
 unfoldable pub cJudged : ℕ → List ℕ → List ℕ → Float → Float → Float → ℕ → Judged
 cJudged n m l cpos cneg eps budget =
-    let j5 = after (samplesJudged n m l) (first 5 (costGood cpos cneg) 2 0) in
-    after (after j5 (need 8 (epsGood eps))) (need 10 (budgetGood budget))
+    let j5 = andThen (samplesJudged n m l) (first 5 (costGood cpos cneg) 2 0) in
+    andThen (andThen j5 (need 8 (epsGood eps))) (need 10 (budgetGood budget))
 
 -- 3, 4 and 8 to 10
 unfoldable pub nuJudged : ℕ → List ℕ → List ℕ → Float → Float → ℕ → Judged
 nuJudged n m l nu eps budget =
-    let j8 = after (samplesJudged n m l) (need 8 (epsGood eps)) in
-    after (after j8 (need 9 (nuGood nu))) (need 10 (budgetGood budget))
+    let j8 = andThen (samplesJudged n m l) (need 8 (epsGood eps)) in
+    andThen (andThen j8 (need 9 (nuGood nu))) (need 10 (budgetGood budget))
 
 -- 3 and 8 to 10
 unfoldable pub oneClassJudged : ℕ → List ℕ → Float → Float → ℕ → Judged
 oneClassJudged n m nu eps budget =
-    let j8 = after (first 3 (entryGood m) (n * n) 0) (need 8 (epsGood eps)) in
-    after (after j8 (need 9 (nuGood nu))) (need 10 (budgetGood budget))
+    let j8 = andThen (first 3 (entryGood m) (n * n) 0) (need 8 (epsGood eps)) in
+    andThen (andThen j8 (need 9 (nuGood nu))) (need 10 (budgetGood budget))

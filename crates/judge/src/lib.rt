@@ -4,7 +4,7 @@ ghost use mathlib.Core.Path.{_≡_};
 ghost use Prim.Native.Nat.{ℕ, _*_, _≤_};
 ghost use lib.ListN.{length};
 ghost use Rattle.judge.specs.Sizes.{roomGood, sizes};
-ghost use Rattle.judge.specs.Judge.{first, need, after, isBad, isCeiling, labelGood, ceilingGood, costGood, alphaGood, linearGood, epsGood, nuGood, budgetGood, bytesGood};
+ghost use Rattle.judge.specs.Judge.{first, need, andThen, isBad, isCeiling, labelGood, ceilingGood, costGood, alphaGood, linearGood, epsGood, nuGood, budgetGood, bytesGood};
 use alpha::Alpha;
 
 // Fine, or a refusal's number and the offending index.
@@ -56,7 +56,7 @@ pub fn sized(
 // Refusal 4.
 pub fn labels_judged(j: Judged, l: &[u8], n: usize) -> Judged
     requires { ⌜ n ≤ length (now l) ⌝ }
-    ensures { λ r. ⌜ r ≡ after j (first 4 (labelGood (now (l .entry))) n 0) ⌝ }
+    ensures { λ r. ⌜ r ≡ andThen j (first 4 (labelGood (now (l .entry))) n 0) ⌝ }
 {
     if is_bad(j) {
         return j;
@@ -81,7 +81,7 @@ fn is_ceiling(c: f64) -> bool
 // Refusal 5, the general entry's.
 pub fn ceilings_judged(j: Judged, c: &[f64], n: usize) -> Judged
     requires { ⌜ n ≤ length (now c) ⌝ }
-    ensures { λ r. ⌜ r ≡ after j (first 5 (ceilingGood (now (c .entry))) n 0) ⌝ }
+    ensures { λ r. ⌜ r ≡ andThen j (first 5 (ceilingGood (now (c .entry))) n 0) ⌝ }
 {
     if is_bad(j) {
         return j;
@@ -99,7 +99,7 @@ pub fn ceilings_judged(j: Judged, c: &[f64], n: usize) -> Judged
 
 // Refusal 5, the C entry's.
 pub fn costs_judged(j: Judged, cpos: f64, cneg: f64) -> Judged
-    ensures { λ r. ⌜ r ≡ after j (first 5 (costGood cpos cneg) 2 0) ⌝ }
+    ensures { λ r. ⌜ r ≡ andThen j (first 5 (costGood cpos cneg) 2 0) ⌝ }
 {
     if is_bad(j) {
         return j;
@@ -116,7 +116,7 @@ pub fn costs_judged(j: Judged, cpos: f64, cneg: f64) -> Judged
 // Refusal 6.
 pub fn alphas_judged(j: Judged, a: &[f64], c: &[f64], n: usize) -> Judged
     requires { ⌜ (n ≤ length (now a)) × (n ≤ length (now c)) ⌝ }
-    ensures { λ r. ⌜ r ≡ after j (first 6 (alphaGood (now (a .entry)) (now (c .entry))) n 0) ⌝ }
+    ensures { λ r. ⌜ r ≡ andThen j (first 6 (alphaGood (now (a .entry)) (now (c .entry))) n 0) ⌝ }
 {
     if is_bad(j) {
         return j;
@@ -135,7 +135,7 @@ pub fn alphas_judged(j: Judged, a: &[f64], c: &[f64], n: usize) -> Judged
 // Refusal 7.
 pub fn linear_judged(j: Judged, p: &[f64], n: usize) -> Judged
     requires { ⌜ n ≤ length (now p) ⌝ }
-    ensures { λ r. ⌜ r ≡ after j (first 7 (linearGood (now (p .entry))) n 0) ⌝ }
+    ensures { λ r. ⌜ r ≡ andThen j (first 7 (linearGood (now (p .entry))) n 0) ⌝ }
 {
     if is_bad(j) {
         return j;
@@ -153,7 +153,7 @@ pub fn linear_judged(j: Judged, p: &[f64], n: usize) -> Judged
 
 // Refusal 8: the patterns below the infinity's are those of finite numbers with a clear sign bit.
 pub fn eps_judged(j: Judged, eps: f64) -> Judged
-    ensures { λ r. ⌜ r ≡ after j (need 8 (epsGood eps)) ⌝ }
+    ensures { λ r. ⌜ r ≡ andThen j (need 8 (epsGood eps)) ⌝ }
 {
     if is_bad(j) {
         return j;
@@ -166,7 +166,7 @@ pub fn eps_judged(j: Judged, eps: f64) -> Judged
 
 // Refusal 9.
 pub fn nu_of_judged(j: Judged, nu: f64) -> Judged
-    ensures { λ r. ⌜ r ≡ after j (need 9 (nuGood nu)) ⌝ }
+    ensures { λ r. ⌜ r ≡ andThen j (need 9 (nuGood nu)) ⌝ }
 {
     if is_bad(j) {
         return j;
@@ -179,7 +179,7 @@ pub fn nu_of_judged(j: Judged, nu: f64) -> Judged
 
 // Refusal 10.
 pub fn budget_judged(j: Judged, budget: u64) -> Judged
-    ensures { λ r. ⌜ r ≡ after j (need 10 (budgetGood budget)) ⌝ }
+    ensures { λ r. ⌜ r ≡ andThen j (need 10 (budgetGood budget)) ⌝ }
 {
     if is_bad(j) {
         return j;
@@ -204,7 +204,7 @@ fn bytes_good(r: &[u8], n: usize) -> bool
 // Refusal 12.
 pub fn retired_judged(j: Judged, r: &[u8], n: usize) -> Judged
     requires { ⌜ n ≤ length (now r) ⌝ }
-    ensures { λ z. ⌜ z ≡ after j (need 12 (bytesGood (now (r .entry)) n)) ⌝ }
+    ensures { λ z. ⌜ z ≡ andThen j (need 12 (bytesGood (now (r .entry)) n)) ⌝ }
 {
     if is_bad(j) {
         return j;
@@ -217,7 +217,7 @@ pub fn retired_judged(j: Judged, r: &[u8], n: usize) -> Judged
 
 // Refusal 13.
 pub fn shrinking_judged(j: Judged, shrinking: bool) -> Judged
-    ensures { λ z. ⌜ z ≡ after j (need 13 (not shrinking)) ⌝ }
+    ensures { λ z. ⌜ z ≡ andThen j (need 13 (not shrinking)) ⌝ }
 {
     if is_bad(j) {
         return j;

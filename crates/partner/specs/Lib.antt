@@ -2,4 +2,5 @@ pub mod Sides
 pub mod Stirred
 pub mod Curvature
 pub mod Second
+pub mod Rule
 pub mod Lead

@@ -21,7 +21,7 @@ use Rattle.judge.specs.Judge.{first, isCeiling, entryGood, labelGood}
 use Rattle.judge.specs.declared.Judged.the-variants.{Fine}
 use Rattle.judge.proofs.Accepted.{entry-within, label-within, cost-within}
 use Rattle.judge.proofs.First.{first-fine}
-use Rattle.rounding.specs.Units.{Real}
+use Rattle.rounding.specs.Units.{NotNan}
 use Rattle.rounding.proofs.Order.{lt-real, lt→le, le-real}
 use Rattle.readings.specs.Order.{weightIn}
 use Rattle.readings.proofs.Order.{home-at}
@@ -88,11 +88,11 @@ module _ {k : Fit} {m : List ℕ} {budget : ℕ} {d : Lent} {o : Whole} (v : Ser
   served-box = box-weights g m one-ceiling (startFrom k m d) lent
 
   -- where the next pass steps with i and j
-  pub served-no-nan : (t i j : ℕ) → pairAfter k m d t ≡ Pair i j → Real (deltaAfter k m d t i j)
+  pub served-no-nan : (t i j : ℕ) → pairAfter k m d t ≡ Pair i j → NotNan (deltaAfter k m d t i j)
   served-no-nan = no-nan-runs g m one-ceiling (startFrom k m d) lent
 
   -- the pair that is chosen after t passes
-  pub served-chosen : (t i j : ℕ) → chosen g m (after k m d t) ≡ Pair i j → Real (deltaAt (problemOf g m) (after k m d t .state) (g .floor) i j)
+  pub served-chosen : (t i j : ℕ) → chosen g m (after k m d t) ≡ Pair i j → NotNan (deltaAt (problemOf g m) (after k m d t .state) (g .floor) i j)
   served-chosen = no-nan-chosen g m one-ceiling (startFrom k m d) lent
 
   -- and at home, before sign and scaling: the weight of each sample

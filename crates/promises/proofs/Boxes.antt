@@ -24,7 +24,7 @@ use Rattle.judge.specs.declared.Judged.the-variants.{Fine}
 use Rattle.judge.proofs.Accepted.{general-fine, c-fine, nu-fine, one-class-fine, alpha-within, nu-within}
 use Rattle.judge.proofs.First.{first-fine}
 use Rattle.lists.proofs.Prefix.{prefix-at, filled-at}
-use Rattle.rounding.specs.Units.{Real}
+use Rattle.rounding.specs.Units.{NotNan}
 use Rattle.rounding.proofs.Order.{le-refl}
 use Rattle.travel.specs.Home.{lastLeft}
 use Rattle.promises.specs.Fit.{generalFit, cFit, nuFit, oneClassFit, weightAfter, pairAfter, deltaAfter, stepsTaken}
@@ -69,7 +69,7 @@ module _ (n : ℕ) (m l : List ℕ) (c a p : List Float) (nurule : Bool) (eps : 
   general-box = served-box (general-served n m l c a p nurule eps shrinking budget d x e) one-b
 
   pub general-no-nan : (t i j : ℕ) → pairAfter (generalFit n l c a p nurule eps shrinking) m d t ≡ Pair i j
-      → Real (deltaAfter (generalFit n l c a p nurule eps shrinking) m d t i j)
+      → NotNan (deltaAfter (generalFit n l c a p nurule eps shrinking) m d t i j)
   general-no-nan = served-no-nan (general-served n m l c a p nurule eps shrinking budget d x e) one-b
 
   -- the weight behind what home answers for sample s
@@ -110,7 +110,7 @@ module _ (n : ℕ) (m l : List ℕ) (cost eps : Float) (shrinking : Bool) (budge
   pub c-box : (t i : ℕ) → i < n → In cost (weightAfter (cFit n l cost cost eps shrinking) m d t i)
   c-box = served-box (c-served n m l cost cost eps shrinking budget d x e) c-common
 
-  pub c-no-nan : (t i j : ℕ) → pairAfter (cFit n l cost cost eps shrinking) m d t ≡ Pair i j → Real (deltaAfter (cFit n l cost cost eps shrinking) m d t i j)
+  pub c-no-nan : (t i j : ℕ) → pairAfter (cFit n l cost cost eps shrinking) m d t ≡ Pair i j → NotNan (deltaAfter (cFit n l cost cost eps shrinking) m d t i j)
   c-no-nan = served-no-nan (c-served n m l cost cost eps shrinking budget d x e) c-common
 
   -- the weight behind what home answers for sample s
@@ -141,7 +141,7 @@ module _ (n : ℕ) (m l : List ℕ) (nu eps : Float) (shrinking : Bool) (budget 
   pub nu-box : (t i : ℕ) → i < n → In one (weightAfter (nuFit n l nu eps shrinking) m d t i)
   nu-box = served-box (nu-served n m l nu eps shrinking budget d x e) nu-common
 
-  pub nu-no-nan : (t i j : ℕ) → pairAfter (nuFit n l nu eps shrinking) m d t ≡ Pair i j → Real (deltaAfter (nuFit n l nu eps shrinking) m d t i j)
+  pub nu-no-nan : (t i j : ℕ) → pairAfter (nuFit n l nu eps shrinking) m d t ≡ Pair i j → NotNan (deltaAfter (nuFit n l nu eps shrinking) m d t i j)
   nu-no-nan = served-no-nan (nu-served n m l nu eps shrinking budget d x e) nu-common
 
   -- the weight behind what home answers for sample s
@@ -167,7 +167,7 @@ module _ (n : ℕ) (m : List ℕ) (nu eps : Float) (shrinking : Bool) (budget : 
   pub one-class-box : (t i : ℕ) → i < n → In one (weightAfter (oneClassFit n nu eps shrinking) m d t i)
   one-class-box = served-box (one-class-served n m nu eps shrinking budget d x e) one-class-common
 
-  pub one-class-no-nan : (t i j : ℕ) → pairAfter (oneClassFit n nu eps shrinking) m d t ≡ Pair i j → Real (deltaAfter (oneClassFit n nu eps shrinking) m d t i j)
+  pub one-class-no-nan : (t i j : ℕ) → pairAfter (oneClassFit n nu eps shrinking) m d t ≡ Pair i j → NotNan (deltaAfter (oneClassFit n nu eps shrinking) m d t i j)
   one-class-no-nan = served-no-nan (one-class-served n m nu eps shrinking budget d x e) one-class-common
 
   -- the weight behind what home answers for sample s

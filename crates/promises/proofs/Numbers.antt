@@ -21,7 +21,7 @@ use Rattle.answer.specs.declared.Outcome.{Outcome}
 use Rattle.answer.specs.declared.Outcome.the-variants.{Accepted, Refused}
 use Rattle.classification.specs.Entries.{givenOf, fitted, decided, entered, sizesOf, generalSized, generalOf, fitCSized, fitCOf, fitNuSized, fitNuOf, fitOneClassSized, fitOneClassOf}
 use Rattle.fits.specs.Starts.{nothing, evenly, allPositive, costsTo, half, sharedTo, oneClassTo}
-use Rattle.judge.specs.Judge.{first, need, after, entryGood, labelGood, ceilingGood, costGood, alphaGood, linearGood, epsGood, nuGood, budgetGood, bytesGood, samplesJudged, generalJudged, retiredJudged, cJudged, nuJudged, oneClassJudged}
+use Rattle.judge.specs.Judge.{first, need, andThen, entryGood, labelGood, ceilingGood, costGood, alphaGood, linearGood, epsGood, nuGood, budgetGood, bytesGood, samplesJudged, generalJudged, retiredJudged, cJudged, nuJudged, oneClassJudged}
 use Rattle.judge.specs.Sizes.{countGood, roomGood, sizes}
 use Rattle.judge.specs.declared.Judged.{Judged}
 use Rattle.judge.specs.declared.Judged.the-variants.{Fine, Bad}
@@ -71,38 +71,38 @@ module _ (ok : ℕ → Bool) (ten : (k : ℕ) → listed false k ≡ true → ok
     need-so : (b : Bool) → judgedSo ok (need k b) ≡ true
     need-so b = one-test b Fine 0 (unfold judgedSo in refl)
 
-  after-so : (a b : Judged) → judgedSo ok a ≡ true → judgedSo ok b ≡ true → judgedSo ok (after a b) ≡ true
-  unfolding after judgedSo
-  after-so Fine b g h = h
-  after-so (Bad k i) b g h = g
+  and-then-so : (a b : Judged) → judgedSo ok a ≡ true → judgedSo ok b ≡ true → judgedSo ok (andThen a b) ≡ true
+  unfolding andThen judgedSo
+  and-then-so Fine b g h = h
+  and-then-so (Bad k i) b g h = g
 
   samples-so : (n : ℕ) (m l : List ℕ) → judgedSo ok (samplesJudged n m l) ≡ true
-  samples-so n m l = after-so _ _ (first-so 3 (ten 3 refl) (entryGood m) (n * n) 0) (first-so 4 (ten 4 refl) (labelGood l) n 0)
+  samples-so n m l = and-then-so _ _ (first-so 3 (ten 3 refl) (entryGood m) (n * n) 0) (first-so 4 (ten 4 refl) (labelGood l) n 0)
 
   general-so : (n : ℕ) (m l : List ℕ) (c a p : List Float) (eps : Float) (budget : ℕ) → judgedSo ok (generalJudged n m l c a p eps budget) ≡ true
   unfolding generalJudged
   general-so n m l c a p eps budget =
-      let j5 = after-so _ _ (samples-so n m l) (first-so 5 (ten 5 refl) (ceilingGood c) n 0) in
-      let j7 = after-so _ _ (after-so _ _ j5 (first-so 6 (ten 6 refl) (alphaGood a c) n 0)) (first-so 7 (ten 7 refl) (linearGood p) n 0) in
-      after-so _ _ (after-so _ _ j7 (need-so 8 (ten 8 refl) (epsGood eps))) (need-so 10 (ten 10 refl) (budgetGood budget))
+      let j5 = and-then-so _ _ (samples-so n m l) (first-so 5 (ten 5 refl) (ceilingGood c) n 0) in
+      let j7 = and-then-so _ _ (and-then-so _ _ j5 (first-so 6 (ten 6 refl) (alphaGood a c) n 0)) (first-so 7 (ten 7 refl) (linearGood p) n 0) in
+      and-then-so _ _ (and-then-so _ _ j7 (need-so 8 (ten 8 refl) (epsGood eps))) (need-so 10 (ten 10 refl) (budgetGood budget))
 
   c-so : (n : ℕ) (m l : List ℕ) (cpos cneg eps : Float) (budget : ℕ) → judgedSo ok (cJudged n m l cpos cneg eps budget) ≡ true
   unfolding cJudged
   c-so n m l cpos cneg eps budget =
-      let j5 = after-so _ _ (samples-so n m l) (first-so 5 (ten 5 refl) (costGood cpos cneg) 2 0) in
-      after-so _ _ (after-so _ _ j5 (need-so 8 (ten 8 refl) (epsGood eps))) (need-so 10 (ten 10 refl) (budgetGood budget))
+      let j5 = and-then-so _ _ (samples-so n m l) (first-so 5 (ten 5 refl) (costGood cpos cneg) 2 0) in
+      and-then-so _ _ (and-then-so _ _ j5 (need-so 8 (ten 8 refl) (epsGood eps))) (need-so 10 (ten 10 refl) (budgetGood budget))
 
   nu-so : (n : ℕ) (m l : List ℕ) (nu eps : Float) (budget : ℕ) → judgedSo ok (nuJudged n m l nu eps budget) ≡ true
   unfolding nuJudged
   nu-so n m l nu eps budget =
-      let j8 = after-so _ _ (samples-so n m l) (need-so 8 (ten 8 refl) (epsGood eps)) in
-      after-so _ _ (after-so _ _ j8 (need-so 9 (ten 9 refl) (nuGood nu))) (need-so 10 (ten 10 refl) (budgetGood budget))
+      let j8 = and-then-so _ _ (samples-so n m l) (need-so 8 (ten 8 refl) (epsGood eps)) in
+      and-then-so _ _ (and-then-so _ _ j8 (need-so 9 (ten 9 refl) (nuGood nu))) (need-so 10 (ten 10 refl) (budgetGood budget))
 
   one-class-so : (n : ℕ) (m : List ℕ) (nu eps : Float) (budget : ℕ) → judgedSo ok (oneClassJudged n m nu eps budget) ≡ true
   unfolding oneClassJudged
   one-class-so n m nu eps budget =
-      let j8 = after-so _ _ (first-so 3 (ten 3 refl) (entryGood m) (n * n) 0) (need-so 8 (ten 8 refl) (epsGood eps)) in
-      after-so _ _ (after-so _ _ j8 (need-so 9 (ten 9 refl) (nuGood nu))) (need-so 10 (ten 10 refl) (budgetGood budget))
+      let j8 = and-then-so _ _ (first-so 3 (ten 3 refl) (entryGood m) (n * n) 0) (need-so 8 (ten 8 refl) (epsGood eps)) in
+      and-then-so _ _ (and-then-so _ _ j8 (need-so 9 (ten 9 refl) (nuGood nu))) (need-so 10 (ten 10 refl) (budgetGood budget))
 
   -- ---- from what is judged to the outcome
 
@@ -189,8 +189,8 @@ module _ (n : ℕ) (m l : List ℕ) (c a p : List Float) (r : List ℕ) (nurule 
   retired-so : judgedSo retiredNumber (retiredJudged n m l c a p r eps shrinking budget) ≡ true
   unfolding retiredJudged
   retired-so =
-      after-so retiredNumber ten-of-them _ _
-      (after-so retiredNumber ten-of-them _ _ (general-so retiredNumber ten-of-them n m l c a p eps budget) (need-so retiredNumber ten-of-them 12 refl (bytesGood r n)))
+      and-then-so retiredNumber ten-of-them _ _
+      (and-then-so retiredNumber ten-of-them _ _ (general-so retiredNumber ten-of-them n m l c a p eps budget) (need-so retiredNumber ten-of-them 12 refl (bytesGood r n)))
       (need-so retiredNumber ten-of-them 13 refl (not shrinking))
 
   retired-fit-so : numbered retiredNumber (fittedOver (standsIn r) (givenOf n TwoClass eps false nurule) m l c (kept r a n) (kept r p n) budget d .out) ≡ true

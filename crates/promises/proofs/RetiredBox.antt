@@ -29,7 +29,7 @@ use Rattle.retired.specs.Entry.{standsIn, keptTo, kept}
 use Rattle.retired.proofs.Coded.{silenced-place, going}
 use Rattle.retired.proofs.Independent.{kept-at, kept-place, lent-alike, Taken, taken-usable}
 use Rattle.retired.proofs.Laws.{retired-fine}
-use Rattle.rounding.specs.Units.{Real}
+use Rattle.rounding.specs.Units.{NotNan}
 use Rattle.solver.specs.Run.{problemOf}
 use Rattle.standing.proofs.Alike.{Alike}
 use Rattle.standing.specs.Run.{chosenOver, trainedOver}
@@ -168,7 +168,7 @@ module _ {n : ℕ} {r : List ℕ} {nurule : Bool} {eps : Float} {shrinking : Boo
       rw (twins t .alike .weights i h, sym (by-rule t .kin .state)) (served-box quiet-served (one-b i h z) t i h)
 
   -- where i and j are chosen after t passes
-  pub taken-no-nan : (t i j : ℕ) → pairOver st k m d t ≡ Pair i j → Real (deltaOver st k m d t i j)
+  pub taken-no-nan : (t i j : ℕ) → pairOver st k m d t ≡ Pair i j → NotNan (deltaOver st k m d t i j)
   unfolding trainedOver
   taken-no-nan t i j q =
       let y = twins t in

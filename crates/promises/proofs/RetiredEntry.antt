@@ -15,7 +15,7 @@ use Rattle.extreme.specs.declared.Choice.the-variants.{Pair}
 use Rattle.retired.specs.Differ.{Input, retiredFor}
 use Rattle.retired.specs.Entry.{standsIn, kept}
 use Rattle.retired.proofs.Independent.{Taken, retired-taken}
-use Rattle.rounding.specs.Units.{Real}
+use Rattle.rounding.specs.Units.{NotNan}
 use Rattle.travel.specs.Travel.{Travelled}
 use Rattle.promises.specs.Fit.{Fit, weightAfter}
 use Rattle.promises.specs.Retired.{retiredFit, silentFit, afterOver, weightOver, pairOver, deltaOver, stepsOver, ownOver}
@@ -67,7 +67,7 @@ module _ (x : Input) (n : ℕ) (r : List ℕ) (nurule : Bool) (eps : Float) (shr
     pub retired-box : (t i : ℕ) → i < n → standsIn r i ≡ true → In b (weightOver (standsIn r) k (x .matrix) d t i)
     retired-box = taken-box v b fit same fit-a
 
-    pub retired-no-nan : (t i j : ℕ) → pairOver (standsIn r) k (x .matrix) d t ≡ Pair i j → Real (deltaOver (standsIn r) k (x .matrix) d t i j)
+    pub retired-no-nan : (t i j : ℕ) → pairOver (standsIn r) k (x .matrix) d t ≡ Pair i j → NotNan (deltaOver (standsIn r) k (x .matrix) d t i j)
     retired-no-nan = taken-no-nan v b fit same fit-a
 
     -- the weight behind what home answers for sample s

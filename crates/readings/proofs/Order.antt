@@ -9,7 +9,7 @@ use native.Mathlib.Omega.{arith}
 use lib.Ieee.{Float, nan, inf}
 use lib.ListN.{length, getD, set, take, replicate, length-set, length-replicate, getD-replicate}
 use lib.Seq.{getD-set-same, getD-set-other, getD-take, length-take-le, ext-getD}
-use Rattle.readings.specs.Order.{gathered, scattered, crateReading, homeReading, sentOut, weightIn, Within, Perm}
+use Rattle.readings.specs.Order.{gathered, scattered, crateReading, homeReading, sentOut, weightIn, NamesSamples, Perm}
 
 -- no two places hold one sample
 pub once : {n : ℕ} {order : List ℕ} → Perm n order → (k l : ℕ) → k < n → l < n → getD order k 0 ≡ getD order l 0 → k ≡ l
@@ -72,7 +72,7 @@ module _ {A : Type 0} (d : A) (order : List ℕ) (w : ℕ → A) (r : List A) wh
       ∙ scattered-at n p l n (p .place s) (omega arith) (p .inside s h)
 
   -- places from n on stay as they were
-  pub home-after : (n s : ℕ) → Within n order → n ≤ s → getD (homeReading n order w r) s d ≡ getD r s d
+  pub home-after : (n s : ℕ) → NamesSamples n order → n ≤ s → getD (homeReading n order w r) s d ≡ getD r s d
   home-after n s v h = scattered-after n s (λ k c. let b = v .below k c in λ e. let z : ⊥ = omega arith in z)
 
   pub crate-at : (n i : ℕ) → n ≤ length r → i < n → getD (crateReading n order w r) i d ≡ w (getD order i 0)

@@ -31,13 +31,13 @@ abbrev pub weightIn : ℕ → List Float → ℕ → Float
 weightIn n f k = getD f (2 * n + k) nan
 
 -- the first n entries are numbers below n
-pub record Within (n : ℕ) (order : List ℕ) : Type 0 where
+pub record NamesSamples (n : ℕ) (order : List ℕ) : Type 0 where
   pub long : n ≤ length order
   pub below : (k : ℕ) → k < n → getD order k 0 < n
 
 -- .. each of them once: sample s stands at place s
 pub record Perm (n : ℕ) (order : List ℕ) : Type 0 where
-  pub within : Within n order
+  pub within : NamesSamples n order
   pub place : ℕ → ℕ
   pub inside : (s : ℕ) → s < n → place s < n
   pub there : (s : ℕ) → s < n → getD order (place s) 0 ≡ s

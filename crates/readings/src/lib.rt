@@ -2,7 +2,7 @@
 ghost use mathlib.Core.Path.{_≡_};
 ghost use Prim.Native.Nat.{_+_, _*_, _≤_, _<_};
 ghost use lib.ListN.{length, take};
-ghost use Rattle.readings.specs.Order.{Within, crateReading, homeReading, weightIn};
+ghost use Rattle.readings.specs.Order.{NamesSamples, crateReading, homeReading, weightIn};
 ghost use Rattle.readings.specs.Shown.{shownOf};
 
 // The crate's reading, or the home reading.
@@ -30,7 +30,7 @@ pub fn shown<'a>(reading: &'a [f64], home: &'a [f64], which: Reading, n: usize) 
 
 // The crate's reading: place i of the result gets the weight at position u[i].
 pub fn read_crate(res: &mut [f64], f: &[f64], u: &[u64], n: usize)
-    requires { ⌜ (n ≤ 512) × (n ≤ length (now res)) × (7 * n ≤ length (now f)) × (Within n (now u)) ⌝ }
+    requires { ⌜ (n ≤ 512) × (n ≤ length (now res)) × (7 * n ≤ length (now f)) × (NamesSamples n (now u)) ⌝ }
     ensures { λ _. ⌜ now (res .exit) ≡ crateReading n (now (u .entry)) (weightIn n (now (f .entry))) (now (res .entry)) ⌝ }
 {
     for i in 0..n {
@@ -41,7 +41,7 @@ pub fn read_crate(res: &mut [f64], f: &[f64], u: &[u64], n: usize)
 
 // The home reading: place u[k] of the result gets the weight at position k.
 pub fn read_home(res: &mut [f64], f: &[f64], u: &[u64], n: usize)
-    requires { ⌜ (n ≤ 512) × (n ≤ length (now res)) × (7 * n ≤ length (now f)) × (Within n (now u)) ⌝ }
+    requires { ⌜ (n ≤ 512) × (n ≤ length (now res)) × (7 * n ≤ length (now f)) × (NamesSamples n (now u)) ⌝ }
     ensures { λ _. ⌜ now (res .exit) ≡ homeReading n (now (u .entry)) (weightIn n (now (f .entry))) (now (res .entry)) ⌝ }
 {
     for k in 0..n {

@@ -8,7 +8,7 @@ use lib.ListN.{getD, set}
 use Rattle.alpha.specs.Weight.{isFree}
 use Rattle.alpha.specs.declared.Alpha.{Alpha}
 use Rattle.rows.specs.Added.{rowAdded}
-use Rattle.state.specs.Lists.{Problem, State, state}
+use Rattle.state.specs.Lists.{Problem, State, over}
 use Rattle.state.specs.Fields.{alphaIn, alpha, row}
 
 -- the first of the positions from a on get fixed gradient + linear term
@@ -31,9 +31,6 @@ unfoldable pub weightedTo : Problem → State → ℕ → Float → ℕ → Floa
 weightedTo p s i g zero = g
 weightedTo p s i g (suc j) = add binary64 (weightedTo p s i g j) (mul binary64 (alpha p s j .value) (row p s i j))
 
-abbrev pub withFloats : State → List Float → State
-withFloats s f = state f (s .numbers) (s .labels)
-
 -- first branch: an inactive position i whose weight w is free gets all a active weights
 unfoldable pub outerBy : Problem → State → ℕ → ℕ → Alpha → List Float
 outerBy p s a i w = cond (isFree w) (set (s .floats) i (weightedTo p s i (getD (s .floats) i nan) a)) (s .floats)
@@ -43,7 +40,7 @@ outerAt p s a i = outerBy p s a i (alpha p s i)
 
 unfoldable pub outerTo : Problem → ℕ → State → ℕ → List Float
 outerTo p a s zero = s .floats
-outerTo p a s (suc k) = outerAt p (withFloats s (outerTo p a s k)) a (a + k)
+outerTo p a s (suc k) = outerAt p (over s (outerTo p a s k)) a (a + k)
 
 -- second branch: an active position i whose weight w is free goes to all inactive ones
 unfoldable pub innerBy : Problem → State → ℕ → ℕ → Alpha → List Float
@@ -54,7 +51,7 @@ innerAt p s a i = innerBy p s a i (alpha p s i)
 
 unfoldable pub innerTo : Problem → ℕ → State → ℕ → List Float
 innerTo p a s zero = s .floats
-innerTo p a s (suc i) = innerAt p (withFloats s (innerTo p a s i)) a i
+innerTo p a s (suc i) = innerAt p (over s (innerTo p a s i)) a i
 
 -- which branch, over whole numbers
 unfoldable pub branched : Problem → ℕ → State → List Float
@@ -65,4 +62,4 @@ branched p a s =
 
 unfoldable pub reconstructed : Problem → ℕ → State → List Float
 reconstructed p a s =
-    cond (eqb a (p .n)) (s .floats) (branched p a (withFloats s (freshTo (p .n) a (s .floats) (p .n - a))))
+    cond (eqb a (p .n)) (s .floats) (branched p a (over s (freshTo (p .n) a (s .floats) (p .n - a))))

@@ -11,9 +11,9 @@ use Rattle.answer.specs.Solved.{Read, settledOf}
 use Rattle.answer.specs.declared.Finish.the-variants.{Plain}
 use Rattle.answer.specs.declared.Outcome.{Outcome}
 use Rattle.classification.proofs.Laws.{Usable, four-long, usable-general}
-use Rattle.judge.specs.Judge.{generalJudged, retiredJudged, bytesGood, need, after}
+use Rattle.judge.specs.Judge.{generalJudged, retiredJudged, bytesGood, need, andThen}
 use Rattle.judge.specs.declared.Judged.the-variants.{Fine}
-use Rattle.judge.proofs.First.{after-fine, need-fine}
+use Rattle.judge.proofs.First.{and-then-fine, need-fine}
 use Rattle.judge.proofs.Lengths.{long-enough}
 use Rattle.rounding.proofs.Order.{both}
 use Rattle.standing.specs.End.{objectiveOver}
@@ -49,8 +49,8 @@ pub retired-fine : (n : ℕ) (m l : List ℕ) (c a p : List Float) (r : List ℕ
 unfolding retiredJudged
 retired-fine n m l c a p r eps shrinking budget h =
     let j10 = generalJudged n m l c a p eps budget in
-    let h13 = after-fine (after j10 (need 12 (bytesGood r n))) (need 13 (not shrinking)) h in
-    let h12 = after-fine j10 (need 12 (bytesGood r n)) (h13 .0) in
+    let h13 = and-then-fine (andThen j10 (need 12 (bytesGood r n))) (need 13 (not shrinking)) h in
+    let h12 = and-then-fine j10 (need 12 (bytesGood r n)) (h13 .0) in
     record { general = h12 .0; bytes-good = need-fine 12 (bytesGood r n) (h12 .1); off = need-fine 13 (not shrinking) (h13 .1) }
 
 pub usable-retired : (n : ℕ) (m : List ℕ) (budget : ℕ) → n ≤ 512 → length m ≡ 8 * (n * n) → (l : List ℕ) (c a p : List Float) (r : List ℕ) (eps : Float) (shrinking : Bool)

@@ -19,7 +19,7 @@ use Rattle.answer.specs.declared.Outcome.the-variants.{Refused}
 use Rattle.classification.specs.Entries.{givenOf, scratchOf, fitted, decided, entered, sizesOf, generalSized, generalOf}
 use Rattle.classification.proofs.Laws.{usable-general}
 use Rattle.fits.specs.Load.{loadedFloats, loaded}
-use Rattle.judge.specs.Judge.{after, bytesGood, generalJudged, retiredJudged}
+use Rattle.judge.specs.Judge.{andThen, bytesGood, generalJudged, retiredJudged}
 use Rattle.judge.specs.Sizes.{Room}
 use Rattle.judge.specs.declared.Judged.{Judged}
 use Rattle.judge.specs.declared.Judged.the-variants.{Fine, Bad}
@@ -106,9 +106,9 @@ module _ (n : ℕ) (r : List ℕ) (long : length r ≡ n) (all : (k : ℕ) → k
     unfolding retiredJudged
     judged-nobody = rw bytes-all (after-none _ ∙ after-none _)
       where
-        after-none : (j : Judged) → after j Fine ≡ j
-        after-none Fine = unfold after in refl
-        after-none (Bad q i) = unfold after in refl
+        after-none : (j : Judged) → andThen j Fine ≡ j
+        after-none Fine = unfold andThen in refl
+        after-none (Bad q i) = unfold andThen in refl
 
     decided-nobody : (j : Judged) (v w : Whole) → (j ≡ Fine → v ≡ w) → decided j v d ≡ decided j w d
     unfolding decided

@@ -13,8 +13,8 @@ use Rattle.rho.specs.declared.Share.{Share}
 use Rattle.rho.specs.declared.Level.{Level}
 
 -- before the first position
-abbrev pub nothing : Share
-nothing = record { free = 0; sum = ofBits binary64 0; ub = inf false; lb = inf true }
+abbrev pub noShare : Share
+noShare = record { free = 0; sum = ofBits binary64 0; ub = inf false; lb = inf true }
 
 abbrev pub freed : Share → Float → Share
 freed s g = record { free = s .free + 1; sum = add binary64 (s .sum) g; ub = s .ub; lb = s .lb }
@@ -34,29 +34,29 @@ abbrev pub signed : Bool → Float → Float
 signed positive g = mul binary64 (cond positive one minusOne) g
 
 -- C rule: one position
-unfoldable pub weighedC : Bool → Alpha → Float → Share → Share
-weighedC positive w yg s =
+unfoldable pub shareWithC : Bool → Alpha → Float → Share → Share
+shareWithC positive w yg s =
     cond (atUpper w)
     (cond positive (lbRaised s yg) (ubLowered s yg))
     (cond (atLower w) (cond positive (ubLowered s yg) (lbRaised s yg)) (freed s yg))
 
 -- nu rule: one position of the label
-unfoldable pub weighedNu : Alpha → Float → Share → Share
-weighedNu w g s = cond (atUpper w) (lbRaised s g) (cond (atLower w) (ubRaised s g) (freed s g))
+unfoldable pub shareWithNu : Alpha → Float → Share → Share
+shareWithNu w g s = cond (atUpper w) (lbRaised s g) (cond (atLower w) (ubRaised s g) (freed s g))
 
 abbrev pub positiveIn : List ℕ → ℕ → Bool
 positiveIn y k = eqb (getD y k 0) 1
 
 unfoldable pub shareC : ℕ → List Float → List ℕ → ℕ → Share
-shareC n f y zero = nothing
-shareC n f y (suc k) = weighedC (positiveIn y k) (alphaIn n f k) (signed (positiveIn y k) (getD f k nan)) (shareC n f y k)
+shareC n f y zero = noShare
+shareC n f y (suc k) = shareWithC (positiveIn y k) (alphaIn n f k) (signed (positiveIn y k) (getD f k nan)) (shareC n f y k)
 
 -- of the positions of one label, 1 or 0
 unfoldable pub joinedNu : Bool → Alpha → Float → Share → Share
-joinedNu counts w g s = cond counts (weighedNu w g s) s
+joinedNu counts w g s = cond counts (shareWithNu w g s) s
 
 unfoldable pub shareNu : ℕ → List Float → List ℕ → ℕ → ℕ → Share
-shareNu n f y label zero = nothing
+shareNu n f y label zero = noShare
 shareNu n f y label (suc k) = joinedNu (eqb (getD y k 0) label) (alphaIn n f k) (getD f k nan) (shareNu n f y label k)
 
 -- the mean of the free ones, or the middle of the bounds

@@ -3,7 +3,7 @@ ghost use mathlib.Core.Path.{_≡_};
 ghost use Prim.Native.Nat.{_+_, _*_, _≤_, _<_};
 ghost use lib.ListN.{length};
 ghost use Rattle.rho.specs.Rho as Rho;
-ghost use Rattle.rho.specs.Rho.{signed, weighedC, weighedNu, joinedNu, shareC, shareNu, middle, rhoC, rhoNu, levelBy};
+ghost use Rattle.rho.specs.Rho.{signed, shareWithC, shareWithNu, joinedNu, shareC, shareNu, middle, rhoC, rhoNu, levelBy};
 use alpha::Alpha;
 
 // What the positions so far say: how many are free and the sum of their gradients, and the two bounds.
@@ -73,7 +73,7 @@ fn ub_raised(s: Share, g: f64) -> Share
 // C rule, one position.
 fn weigh(s: Share, positive: bool, w: Alpha, g: f64) -> Share
     requires { ⌜ s .free < 512 ⌝ }
-    ensures { λ z. ⌜ (z ≡ weighedC positive w g s) × (z .free ≤ s .free + 1) ⌝ }
+    ensures { λ z. ⌜ (z ≡ shareWithC positive w g s) × (z .free ≤ s .free + 1) ⌝ }
 {
     if w.reached_upper() {
         if positive {
@@ -95,7 +95,7 @@ fn weigh(s: Share, positive: bool, w: Alpha, g: f64) -> Share
 // nu rule, one position of the label.
 fn weigh_nu(s: Share, w: Alpha, g: f64) -> Share
     requires { ⌜ s .free < 512 ⌝ }
-    ensures { λ z. ⌜ (z ≡ weighedNu w g s) × (z .free ≤ s .free + 1) ⌝ }
+    ensures { λ z. ⌜ (z ≡ shareWithNu w g s) × (z .free ≤ s .free + 1) ⌝ }
 {
     if w.reached_upper() {
         lb_raised(s, g)

@@ -10,14 +10,14 @@ use lib.Ieee.Fits.{ofInt-fits}
 use lib.Ieee.Bits.{ofBits-fits}
 use lib.Ieee.Back.{round-whole}
 use lib.Ieee.Scale.{overflow, finite}
-use Rattle.rounding.specs.Units.{Number, plus, minus, Parts, nought, two}
+use Rattle.rounding.specs.Units.{Number, plus, minus, Parts, nought, exactTwo}
 use Rattle.rounding.proofs.Rounding.{value-parts}
 
 pub zero-is : ofBits binary64 0 ≡ nought
 unfolding ofBits
 zero-is = refl
 
-pub two-is : ofBits binary64 0x4000_0000_0000_0000 ≡ two
+pub two-is : ofBits binary64 0x4000_0000_0000_0000 ≡ exactTwo
 unfolding ofBits
 two-is = refl
 

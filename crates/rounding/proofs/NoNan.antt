@@ -10,7 +10,7 @@ use lib.Pow.{pow-lt}
 use lib.Ieee.{Float, nan, inf, fin, Format, emax, low, up, down, unlike, neg, add, sub, mul, div, lt, le, isNan}
 use lib.Ieee.Bits.{cond-no}
 use lib.Ieee.Scale.{finite}
-use Rattle.rounding.specs.Units.{Real, Number, plus, minus, Parts, Within, nought, two}
+use Rattle.rounding.specs.Units.{NotNan, Number, plus, minus, Parts, Within, nought, exactTwo}
 use Rattle.rounding.proofs.Order.{neg-neg}
 use Rattle.rounding.proofs.Units.{compare, one-part, neg-parts, finite-parts}
 use Rattle.rounding.proofs.Rounding.{round-number, rounded-power}
@@ -46,7 +46,7 @@ module _ (f : Format) where
   unfolding sub
   within-sub k x y h p q = within-add k x (neg y) h p (within-neg k y q)
 
-  pub within-twice : (k : ℕ) (x : Float) → suc k < low f + suc (emax f) → Within f k x → Within f (suc k) (mul f two x)
+  pub within-twice : (k : ℕ) (x : Float) → suc k < low f + suc (emax f) → Within f k x → Within f (suc k) (mul f exactTwo x)
   within-twice k x h p = rw (twice f x) (within-add k x x h p p)
 
   -- ---- a quotient by what is finite and above zero
@@ -55,7 +55,7 @@ module _ (f : Format) where
   unfolding lt
   no-zero false n d h t = omega (arith, ltb→lt (0 * down d) (n * up d * 1) h, ap (λ (i : ℕ). i * up d * 1) (eqb→eq n 0 t))
 
-  pub div-real : (x y : Float) → Real x → T (finite y) → T (lt nought y) → Real (div f x y)
+  pub div-real : (x y : Float) → NotNan x → T (finite y) → T (lt nought y) → NotNan (div f x y)
   unfolding div isNan
   div-real nan y p h k = p
   div-real (inf s) (fin t n d) p h k = tt
@@ -65,7 +65,7 @@ module _ (f : Format) where
 
   -- ---- the step of a chosen pair: − x − y where the choice had x + y, and x − y where it had − x + y
 
-  pub neg-sub-real : (x y : Float) → Real (add f x y) → Real (sub f (neg x) y)
+  pub neg-sub-real : (x y : Float) → NotNan (add f x y) → NotNan (sub f (neg x) y)
   unfolding add sub neg isNan
   neg-sub-real nan y h = h
   neg-sub-real (inf s) nan h = h
@@ -78,5 +78,5 @@ module _ (f : Format) where
   neg-sub-real (fin s m e) (inf t) h = tt
   neg-sub-real (fin s m e) (fin t n d) h = sum-real f (not s) (not t) (m * up e * down d) (n * up d * down e) (down e * down d)
 
-  pub sub-real : (x y : Float) → Real (add f (neg x) y) → Real (sub f x y)
+  pub sub-real : (x y : Float) → NotNan (add f (neg x) y) → NotNan (sub f x y)
   sub-real x y h = rw (neg-neg x) at (neg-sub-real (neg x) y h)

@@ -10,7 +10,7 @@ use lib.Pow.{pow-mono}
 use lib.Ieee.{Float, nan, inf, fin, up, down, neg, lt, le, eq, ne, isNan}
 use lib.Ieee.Digits.{size-lt}
 use lib.Ieee.Positive.{num, den}
-use Rattle.rounding.specs.Units.{Real, negative, Compared}
+use Rattle.rounding.specs.Units.{NotNan, negative, Compared}
 use Rattle.rounding.proofs.Compare.{or-left, or-right, Measured, compared, whole}
 
 -- ---- a test as a fact, and as an equation
@@ -29,7 +29,7 @@ both false b h = absurd (false≢true h)
 
 -- ---- what is compared is no NaN
 
-pub le-real : (x y : Float) → T (le x y) → Real x × Real y
+pub le-real : (x y : Float) → T (le x y) → NotNan x × NotNan y
 unfolding le isNan
 le-real nan y t = absurd t
 le-real (inf s) nan t = absurd t
@@ -43,7 +43,7 @@ pub lt→le : (x y : Float) → T (lt x y) → T (le x y)
 unfolding le
 lt→le x y t = or-left (lt x y) (eq x y) t
 
-pub lt-real : (x y : Float) → T (lt x y) → Real x × Real y
+pub lt-real : (x y : Float) → T (lt x y) → NotNan x × NotNan y
 lt-real x y t = le-real x y (lt→le x y t)
 
 -- ---- three floats in one unit that is fine enough for each
@@ -58,7 +58,7 @@ size l top (fin s m e) = m * up e * 2 ^ l / down e
 digits : Float → ℕ
 digits x = lib.Ieee.size (den x)
 
-measured : (l top : ℕ) (x : Float) → Real x → digits x ≤ l → num x * 2 ^ l < top → Measured l top x (size l top x)
+measured : (l top : ℕ) (x : Float) → NotNan x → digits x ≤ l → num x * 2 ^ l < top → Measured l top x (size l top x)
 unfolding size digits isNan
 measured l top nan p h k = p
 measured l top (inf s) p h k = refl
@@ -75,7 +75,7 @@ record Line (x y z : Float) : Type 0 where
   yz : Compared y z (o y + u z) (o z + u y)
   xz : Compared x z (o x + u z) (o z + u x)
 
-line : (x y z : Float) → Real x → Real y → Real z → Line x y z
+line : (x y z : Float) → NotNan x → NotNan y → NotNan z → Line x y z
 line x y z p q r =
     let l = digits x + digits y + digits z in
     let top = suc (num x * 2 ^ l + num y * 2 ^ l + num z * 2 ^ l) in
@@ -94,7 +94,7 @@ line x y z p q r =
 
 -- ---- the laws
 
-pub le-refl : (x : Float) → Real x → T (le x x)
+pub le-refl : (x : Float) → NotNan x → T (le x x)
 le-refl x p = line x x x p p p .xy .most .1 (omega arith)
 
 pub le-trans : (x y z : Float) → T (le x y) → T (le y z) → T (le x z)
@@ -112,13 +112,13 @@ le-lt-trans x y z h k =
     let s = line x y z (le-real x y h .0) (le-real x y h .1) (lt-real y z k .1) in
     s .xz .less .1 (omega (arith, s .xy .most .0 h, s .yz .less .0 k))
 
-pub not-le : (x y : Float) → Real x → Real y → T (not (le x y)) ↔ T (lt y x)
+pub not-le : (x y : Float) → NotNan x → NotNan y → T (not (le x y)) ↔ T (lt y x)
 not-le x y p q = let s = line x y x p q p in (λ t. s .yz .less .1 (s .xy .not-most .0 t), λ t. s .xy .not-most .1 (s .yz .less .0 t))
 
-pub not-lt : (x y : Float) → Real x → Real y → T (not (lt x y)) ↔ T (le y x)
+pub not-lt : (x y : Float) → NotNan x → NotNan y → T (not (lt x y)) ↔ T (le y x)
 not-lt x y p q = let s = line x y x p q p in (λ t. s .yz .most .1 (s .xy .not-less .0 t), λ t. s .xy .not-less .1 (s .yz .most .0 t))
 
-pub le-total : (x y : Float) → Real x → Real y → T (le x y) ⊎ T (le y x)
+pub le-total : (x y : Float) → NotNan x → NotNan y → T (le x y) ⊎ T (le y x)
 le-total x y p q = go (lt y x) (lt→le y x) (not-lt y x q p .0)
   where
     go : (b : Bool) → (T b → T (le y x)) → (T (not b) → T (le x y)) → T (le x y) ⊎ T (le y x)
@@ -131,14 +131,14 @@ lt-asym x y h k = let p = lt-real x y h in T-not (lt x y) (not-lt x y (p .0) (p 
 pub lt-irrefl : (x : Float) → T (lt x x) → ⊥
 lt-irrefl x h = lt-asym x x h h
 
-pub least : (x : Float) → Real x → T (le (inf true) x)
+pub least : (x : Float) → NotNan x → T (le (inf true) x)
 unfolding le isNan
 least nan p = p
 least (inf false) p = tt
 least (inf true) p = tt
 least (fin s m e) p = tt
 
-pub greatest : (x : Float) → Real x → T (le x (inf false))
+pub greatest : (x : Float) → NotNan x → T (le x (inf false))
 unfolding le isNan
 greatest nan p = p
 greatest (inf false) p = tt
@@ -159,7 +159,7 @@ eq-le x y = (
       s .xy .same .1 (omega (arith, s .xy .most .0 (t .0), s .yz .most .0 (t .1))),
 )
 
-pub eq-refl : (x : Float) → Real x → T (eq x x)
+pub eq-refl : (x : Float) → NotNan x → T (eq x x)
 eq-refl x p = eq-le x x .1 (le-refl x p, le-refl x p)
 
 -- only a NaN differs from itself

@@ -12,7 +12,7 @@ use lib.Ieee.{Float, nan, inf, fin, Format, low, up, down, unlike, round, sum, n
 use lib.Ieee.Fits.{up-pos, down-pos}
 use lib.Ieee.Bits.{cond-no}
 use lib.Ieee.Scale.{overflow, finite, round-same}
-use Rattle.rounding.specs.Units.{Number, negative, magnitude, plus, minus, Parts, rounded, two}
+use Rattle.rounding.specs.Units.{Number, negative, magnitude, plus, minus, Parts, rounded, exactTwo}
 use Rattle.rounding.proofs.Units.{value, one-part, finite-parts}
 use Rattle.rounding.proofs.Rounding.{round-neg, rounded-twice}
 use Rattle.rounding.proofs.Sums.{add-rounds, add-number}
@@ -124,7 +124,7 @@ module _ (f : Format) where
   double : (s : Bool) (a d : ℕ) → 0 < d → round f s (2 * a) (1 * d) ≡ round f s (a * d + a * d) (d * d)
   double s a d h = round-same f s (2 * a) (1 * d) (a * d + a * d) (d * d) (omega arith) (mul-pos h h) (omega arith)
 
-  pub twice : (x : Float) → mul f two x ≡ add f x x
+  pub twice : (x : Float) → mul f exactTwo x ≡ add f x x
   unfolding mul add sum
   twice nan = refl
   twice (inf false) = refl
@@ -133,7 +133,7 @@ module _ (f : Format) where
   twice (fin true m e) = double true (m * up e) (down e) (down-pos e)
 
   pub twice-parts : (x : Float) → Number f x → plus f x + plus f x < overflow f → minus f x + minus f x < overflow f
-      → Parts f (mul f two x) (plus f x + plus f x) (minus f x + minus f x)
+      → Parts f (mul f exactTwo x) (plus f x + plus f x) (minus f x + minus f x)
   twice-parts x p h k =
       let n = add-number f x x p p (inl (finite-parts f x p .1 (omega arith))) in
       let g = add-rounds f x x p p (n .real) in

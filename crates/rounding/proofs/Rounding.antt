@@ -12,13 +12,13 @@ use lib.Ieee.Fits.{two, two-le-pos, reach, down-pos, round-is, round-fits}
 use lib.Ieee.Exact.{HasValue, odd-sign, round-exact}
 use lib.Ieee.Order.{kept, drop, round-mono}
 use lib.Ieee.Scale.{overflow, grid, round-val, round-under, grid-scale, normal-of-fraction}
-use Rattle.rounding.specs.Units.{Real, Number, negative, infinite, magnitude, plus, minus, Parts, rounded}
+use Rattle.rounding.specs.Units.{NotNan, Number, negative, infinite, magnitude, plus, minus, Parts, rounded}
 use Rattle.rounding.proofs.Units.{value, overflow-pos, by-sign, compare, neg-parts, finite-parts}
 
 -- ---- the sign of what `round` returns
 
 abbrev Signed : Bool → Float → Type 0
-Signed s x = Real x × (negative x ≡ s)
+Signed s x = NotNan x × (negative x ≡ s)
 
 value-signed : (x : Float) (s : Bool) (a c : ℕ) → HasValue x s a c → Signed s x
 unfolding isNan

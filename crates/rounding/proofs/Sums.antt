@@ -10,7 +10,7 @@ use lib.Pow.{pow-pos}
 use lib.Ieee.{Float, nan, inf, fin, Format, low, up, down, round, sum, neg, add, sub, lt, le, isNan}
 use lib.Ieee.Fits.{down-pos, inf-fits, add-fits}
 use lib.Ieee.Scale.{overflow, finite, round-same}
-use Rattle.rounding.specs.Units.{Real, Number, infinite, magnitude, plus, minus, Parts, rounded, Rounds, Compared}
+use Rattle.rounding.specs.Units.{NotNan, Number, infinite, magnitude, plus, minus, Parts, rounded, Rounds, Compared}
 use Rattle.rounding.proofs.Compare.{all-tests, scale-lt}
 use Rattle.rounding.proofs.Units.{value, overflow-pos, compare, neg-parts, finite-parts}
 use Rattle.rounding.proofs.Rounding.{round-number, round-parts, rounded-mono, rounded-zero, rounded-pos, rounded-top}
@@ -100,7 +100,7 @@ module _ (f : Format) where
 
   -- ---- every sum, and every difference
 
-  pub add-rounds : (x y : Float) → Number f x → Number f y → Real (add f x y) → Rounds f (add f x y) (plus f x + plus f y) (minus f x + minus f y)
+  pub add-rounds : (x y : Float) → Number f x → Number f y → NotNan (add f x y) → Rounds f (add f x y) (plus f x + plus f y) (minus f x + minus f y)
   unfolding add plus minus isNan
   add-rounds nan y p q r = absurd r
   add-rounds (inf s) nan p q r = absurd r
@@ -120,23 +120,23 @@ module _ (f : Format) where
       rw (same-sum f s t (m * up e * down d) (n * up d * down e) u w (2 ^ low f) c (omega arith) (omega arith) (pow-pos (low f)) (mul-pos (down-pos e) (down-pos d)))
       (sum-rounds s t u w)
 
-  pub sub-rounds : (x y : Float) → Number f x → Number f y → Real (sub f x y) → Rounds f (sub f x y) (plus f x + minus f y) (minus f x + plus f y)
+  pub sub-rounds : (x y : Float) → Number f x → Number f y → NotNan (sub f x y) → Rounds f (sub f x y) (plus f x + minus f y) (minus f x + plus f y)
   unfolding sub
   sub-rounds x y p q r = let g = neg-parts f y q in rw (g .plus-is, g .minus-is) at (add-rounds x (neg y) p (g .number) r)
 
   -- ---- where they are no NaN: one operand is finite
 
-  cond-real : (b : Bool) (x y : Float) → Real x → Real y → Real (cond b x y)
+  cond-real : (b : Bool) (x y : Float) → NotNan x → NotNan y → NotNan (cond b x y)
   cond-real true x y h k = h
   cond-real false x y h k = k
 
-  pub sum-real : (s t : Bool) (a b c : ℕ) → Real (sum f s a t b c)
+  pub sum-real : (s t : Bool) (a b c : ℕ) → NotNan (sum f s a t b c)
   unfolding sum
   sum-real s t a b c =
       cond-real (Bool·beq s t) _ _ (round-number f s (a + b) c .real)
       (cond-real (ltb a b) _ _ (round-number f t (b - a) c .real) (round-number f (s && ltb b a) (a - b) c .real))
 
-  add-real : (x y : Float) → Real x → Real y → T (finite x) ⊎ T (finite y) → Real (add f x y)
+  add-real : (x y : Float) → NotNan x → NotNan y → T (finite x) ⊎ T (finite y) → NotNan (add f x y)
   unfolding add isNan
   add-real nan y p q h = p
   add-real (inf s) nan p q h = q
@@ -166,12 +166,12 @@ module _ (f : Format) where
       compare f x y (g .number) (h .number) .most .1 (omega arith)
 
   module _ (x y z w : Float) (X : Number f x) (Y : Number f y) (Z : Number f z) (W : Number f w) where
-    pub add-mono : Real (add f x y) → Real (add f z w) → T (le x z) → T (le y w) → T (le (add f x y) (add f z w))
+    pub add-mono : NotNan (add f x y) → NotNan (add f z w) → T (le x z) → T (le y w) → T (le (add f x y) (add f z w))
     add-mono p q h k =
         rounds-mono (add f x y) (add f z w) _ _ _ _ (add-rounds x y X Y p) (add-rounds z w Z W q)
         (omega (arith, compare f x z X Z .most .0 h, compare f y w Y W .most .0 k))
 
-    pub sub-mono : Real (sub f x y) → Real (sub f z w) → T (le x z) → T (le w y) → T (le (sub f x y) (sub f z w))
+    pub sub-mono : NotNan (sub f x y) → NotNan (sub f z w) → T (le x z) → T (le w y) → T (le (sub f x y) (sub f z w))
     sub-mono p q h k =
         rounds-mono (sub f x y) (sub f z w) _ _ _ _ (sub-rounds x y X Y p) (sub-rounds z w Z W q)
         (omega (arith, compare f x z X Z .most .0 h, compare f w y W Y .most .0 k))
@@ -193,13 +193,13 @@ module _ (f : Format) where
             ((λ t. omega (arith, d .less .0 t), λ i. d .less .1 (omega arith)), (λ t. omega (arith, d .same .0 t), λ i. d .same .1 (omega arith))),
       )
 
-  pub sub-above : (x y z : Float) → Number f x → Number f y → Real (sub f x y) → Parts f z 0 0 → T (lt z (sub f x y)) ↔ T (lt y x)
+  pub sub-above : (x y z : Float) → Number f x → Number f y → NotNan (sub f x y) → Parts f z 0 0 → T (lt z (sub f x y)) ↔ T (lt y x)
   sub-above x y z p q r h =
       let g = sign (sub f x y) z _ _ (sub-rounds x y p q r) h .1 in
       let c = compare f y x q p in
       (λ t. c .less .1 (omega (arith, g .less .0 t)), λ t. g .less .1 (omega (arith, c .less .0 t)))
 
-  pub sub-self : (x : Float) → Number f x → Real (sub f x x) → Parts f (sub f x x) 0 0
+  pub sub-self : (x : Float) → Number f x → NotNan (sub f x x) → Parts f (sub f x x) 0 0
   sub-self x p r =
       let g = sub-rounds x x p p r in
       record { number = g .number; plus-is = g .plus-is ∙ rounded-zero f _ (omega arith); minus-is = g .minus-is ∙ rounded-zero f _ (omega arith) }

@@ -13,7 +13,7 @@ use lib.Ieee.Fits.{up-pos, down-pos, neg-fits}
 use lib.Ieee.Bits.{ofBits-toBits}
 use lib.Ieee.Exact.{HasValue}
 use lib.Ieee.Scale.{overflow, finite}
-use Rattle.rounding.specs.Units.{Real, Number, negative, infinite, magnitude, plus, minus, Parts, Compared}
+use Rattle.rounding.specs.Units.{NotNan, Number, negative, infinite, magnitude, plus, minus, Parts, Compared}
 use Rattle.rounding.proofs.Compare.{Measured, compared, whole}
 
 -- ---- what `fits` says of a finite value
@@ -114,7 +114,7 @@ module _ (f : Format) where
   zero-parts true = record { number = record { fit = tt; real = tt }; plus-is = refl; minus-is = none }
   zero-parts false = record { number = record { fit = tt; real = tt }; plus-is = none; minus-is = refl }
 
-  neg-real : (x : Float) → Real x → Real (neg x)
+  neg-real : (x : Float) → NotNan x → NotNan (neg x)
   unfolding neg isNan
   neg-real nan p = p
   neg-real (inf s) p = p

@@ -13,17 +13,17 @@ abbrev pub nought : Float
 nought = fin false 0 (pos 0)
 
 -- 2
-abbrev pub two : Float
-two = fin false 1 (pos 1)
+abbrev pub exactTwo : Float
+exactTwo = fin false 1 (pos 1)
 
 -- no NaN
-abbrev pub Real : Float → Type 0
-Real x = T (not (isNan x))
+abbrev pub NotNan : Float → Type 0
+NotNan x = T (not (isNan x))
 
 -- a value of the format that is no NaN
 pub record Number (f : Format) (x : Float) : Type 0 where
   pub fit : T (fits f x)
-  pub real : Real x
+  pub real : NotNan x
 
 -- ---- a value in units
 

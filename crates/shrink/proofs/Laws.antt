@@ -4,7 +4,7 @@ use mathlib.Core.Bool.{Bool, true, false}
 use mathlib.Core.Path.{_≡_, refl}
 use native.Mathlib.Omega.{arith}
 use borrow.Author.Tests.{lt-ltb, le-ltb}
-use Rattle.shrink.specs.Walk.{walking, fallen, exchanged, dropped, visited}
+use Rattle.shrink.specs.Walk.{walking, countFallen, exchanged, dropped, visited}
 
 module _ {S : Type 0} (swap : S → ℕ → ℕ → S) (s : S) (i a : ℕ) where
   pub exchanged-far : i < a → walking a false (swap s i a) ≡ exchanged swap s i a
@@ -16,18 +16,18 @@ module _ {S : Type 0} (swap : S → ℕ → ℕ → S) (s : S) (i a : ℕ) where
   exchanged-near h = rw (le-ltb i a h)
 
 module _ {S : Type 0} (drops : S → ℕ → Bool) (s : S) (i : ℕ) where
-  pub fallen-kept : (a : ℕ) → i < a → drops s a ≡ false → a ≡ fallen drops s i a
-  unfolding fallen
+  pub fallen-kept : (a : ℕ) → i < a → drops s a ≡ false → a ≡ countFallen drops s i a
+  unfolding countFallen
   fallen-kept zero h k = refl
   fallen-kept (suc a) h k = rw (lt-ltb i (suc a) h, k)
 
-  pub fallen-dropped : (a : ℕ) → i < a → drops s a ≡ true → fallen drops s i a ≡ fallen drops s i (a - 1)
-  unfolding fallen
+  pub fallen-dropped : (a : ℕ) → i < a → drops s a ≡ true → countFallen drops s i a ≡ countFallen drops s i (a - 1)
+  unfolding countFallen
   fallen-dropped zero h k = let z : ⊥ = omega arith in absurd z
   fallen-dropped (suc a) h k = let e : suc a - 1 ≡ a = omega arith in rw (lt-ltb i (suc a) h, k, e)
 
-  pub fallen-end : (a : ℕ) → a ≤ i → a ≡ fallen drops s i a
-  unfolding fallen
+  pub fallen-end : (a : ℕ) → a ≤ i → a ≡ countFallen drops s i a
+  unfolding countFallen
   fallen-end zero h = refl
   fallen-end (suc a) h = rw (le-ltb i (suc a) h)
 
@@ -46,7 +46,7 @@ module _ {S : Type 0} (drops : S → ℕ → Bool) (s : S) (i : ℕ) where
     visited-none zero e h = rw h
     visited-none (suc a) e h = let z : ⊥ = omega arith in absurd z
 
-    pub visited-some : (a : ℕ) → (a ≡ 0 → ⊥) → drops s i ≡ true → exchanged swap s i (fallen drops s i (a - 1)) ≡ visited drops swap i (walking a false s)
+    pub visited-some : (a : ℕ) → (a ≡ 0 → ⊥) → drops s i ≡ true → exchanged swap s i (countFallen drops s i (a - 1)) ≡ visited drops swap i (walking a false s)
     unfolding visited dropped
     visited-some zero e h = absurd (e refl)
     visited-some (suc a) e h = let p : suc a - 1 ≡ a = omega arith in rw (h, p)

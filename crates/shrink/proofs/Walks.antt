@@ -3,14 +3,14 @@ use Prim.Native.Nat.{ℕ, zero, suc, _≤_, _<_}
 use mathlib.Core.Bool.{Bool, true, false, cond, _&&_}
 use native.Mathlib.Omega.{arith}
 use lib.Dec.{ltb}
-use Rattle.shrink.specs.Walk.{Walking, fallen, exchanged, dropped, visited, walked}
+use Rattle.shrink.specs.Walk.{Walking, countFallen, exchanged, dropped, visited, walked}
 
-fallen-most : {S : Type 0} (drops : S → ℕ → Bool) (s : S) (i a : ℕ) → fallen drops s i a ≤ a
-unfolding fallen
+fallen-most : {S : Type 0} (drops : S → ℕ → Bool) (s : S) (i a : ℕ) → countFallen drops s i a ≤ a
+unfolding countFallen
 fallen-most drops s i zero = omega arith
 fallen-most drops s i (suc a) = go (ltb i (suc a) && drops s (suc a)) (fallen-most drops s i a)
   where
-    go : (b : Bool) → fallen drops s i a ≤ a → cond b (fallen drops s i a) (suc a) ≤ suc a
+    go : (b : Bool) → countFallen drops s i a ≤ a → cond b (countFallen drops s i a) (suc a) ≤ suc a
     go true h = omega arith
     go false h = omega arith
 
@@ -34,7 +34,7 @@ module _ {S : Type 0} (n : ℕ) (P : S → Type 0) (swap : S → ℕ → ℕ →
   walks-dropped s i zero r l k = record { kept = r; most = omega arith }
   walks-dropped s i (suc c) r l k =
       let m = fallen-most drops s i c in
-      walks-exchanged s i (fallen drops s i c) r l (omega arith) (omega arith)
+      walks-exchanged s i (countFallen drops s i c) r l (omega arith) (omega arith)
 
   walks-visited : (i : ℕ) (w : Walking S) → i < n → Walks P a w → Walks P a (visited drops swap i w)
   unfolding visited

@@ -13,9 +13,9 @@ abbrev pub walking : {S : Type 0} → ℕ → Bool → S → Walking S
 walking a r s = record { active = a; refused = r; state = s }
 
 -- the count falls from a while it is above i and what stands at it is to be dropped
-unfoldable pub fallen : {S : Type 0} → (S → ℕ → Bool) → S → ℕ → ℕ → ℕ
-fallen drops s i zero = zero
-fallen drops s i (suc a) = cond (ltb i (suc a) && drops s (suc a)) (fallen drops s i a) (suc a)
+unfoldable pub countFallen : {S : Type 0} → (S → ℕ → Bool) → S → ℕ → ℕ → ℕ
+countFallen drops s i zero = zero
+countFallen drops s i (suc a) = cond (ltb i (suc a) && drops s (suc a)) (countFallen drops s i a) (suc a)
 
 -- where the count a is then still above i, positions i and a are exchanged
 unfoldable pub exchanged : {S : Type 0} → (S → ℕ → ℕ → S) → S → ℕ → ℕ → Walking S
@@ -24,7 +24,7 @@ exchanged swap s i a = walking a false (cond (ltb i a) (swap s i a) s)
 -- position i is to be dropped: the count falls by one, and at 0 that is refused
 unfoldable pub dropped : {S : Type 0} → (S → ℕ → Bool) → (S → ℕ → ℕ → S) → S → ℕ → ℕ → Walking S
 dropped drops swap s i zero = walking zero true s
-dropped drops swap s i (suc a) = exchanged swap s i (fallen drops s i a)
+dropped drops swap s i (suc a) = exchanged swap s i (countFallen drops s i a)
 
 unfoldable pub visited : {S : Type 0} → (S → ℕ → Bool) → (S → ℕ → ℕ → S) → ℕ → Walking S → Walking S
 visited drops swap i w = cond (w .refused) w (cond (drops (w .state) i) (dropped drops swap (w .state) i (w .active)) w)

@@ -4,7 +4,7 @@ ghost use Prim.Native.Nat.{_+_, _*_, _≤_, _<_};
 ghost use lib.ListN.{length};
 ghost use Rattle.state.specs.Lists.{State, state};
 ghost use Rattle.state.specs.Moving.{moved};
-ghost use Rattle.shrink.specs.Walk.{Walking, walking, fallen, exchanged, visited, walked};
+ghost use Rattle.shrink.specs.Walk.{Walking, walking, countFallen, exchanged, visited, walked};
 ghost use Rattle.shrink.specs.Drops.{limitsC, limitsNu, upperDrops, lowerDrops, dropsBy, dropsAt, walkedOver};
 use alpha::Alpha;
 
@@ -88,7 +88,7 @@ fn drops(f: &[f64], u: &[u64], y: &[u8], n: usize, l: Limits, k: usize) -> bool
 // The count falls from start while it is above i and what stands at it is to be dropped.
 fn fall(f: &[f64], u: &[u64], y: &[u8], n: usize, l: Limits, i: usize, start: usize) -> usize
     requires { ⌜ (start < n) × (n ≤ 512) × (7 * n ≤ length (now f)) × (n ≤ length (now y)) ⌝ }
-    ensures { λ r. ⌜ (r ≡ fallen (dropsAt n l) (state (now (f .entry)) (now (u .entry)) (now (y .entry))) i start) × (r ≤ start) ⌝ }
+    ensures { λ r. ⌜ (r ≡ countFallen (dropsAt n l) (state (now (f .entry)) (now (u .entry)) (now (y .entry))) i start) × (r ≤ start) ⌝ }
 {
     let mut a = start;
     while i < a {

@@ -100,8 +100,8 @@ module _ (g : Given) (m : List ℕ) (w : Full) where
       go : (x : Bool)
           → cond x (choiceNu (problemOf g m) (w .state) (g .floor) (g .eps) (w .run .active)) (choiceC (problemOf g m) (w .state) (g .floor) (g .eps) (w .run .active)) ≡ Pair i j
           → (i < w .run .active) × (j < w .run .active)
-      go true e = let r = Nu.pair-rule (problemOf g m) (w .state) (w .run .active) (g .floor) (g .eps) i j e in (r .1 .inside, r .0 .partner .inside)
-      go false e = let r = C.pair-rule (problemOf g m) (w .state) (w .run .active) (g .floor) (g .eps) i j e in (r .1 .inside, r .0 .partner .inside)
+      go true e = let r = Nu.pair-rule (problemOf g m) (w .state) (w .run .active) (g .floor) (g .eps) i j .0 e .1 .second in (r .after .led .inside, r .inside)
+      go false e = let r = C.pair-rule (problemOf g m) (w .state) (w .run .active) (g .floor) (g .eps) i j .0 e .1 .second in (r .after .led .inside, r .inside)
 
   module _ (b : List Float) where
     pub looked-pair : (i j : ℕ) → chosen g m w ≡ Pair i j → stepped g m b (withRun w (counterAt (w .run) 1)) i j ≡ lookedAgain g m b w

@@ -39,8 +39,8 @@ topsNu es =
     let d = placed es 3 .value in
     record { limits = limitsNu a b c d; level = maxOf (add binary64 a b) (add binary64 c d) }
 
-abbrev pub joined : Run → Walking State → Full
-joined r k = record { run = afterWalk r (k .active) (k .refused); state = k .state }
+abbrev pub walkedFull : Run → Walking State → Full
+walkedFull r k = record { run = afterWalk r (k .active) (k .refused); state = k .state }
 
 -- m is the lent matrix, b the ceilings by place
 module _ (g : Given) (m : List ℕ) where
@@ -70,7 +70,7 @@ module _ (g : Given) (m : List ℕ) where
       w
 
   unfoldable pub walkedFrom : Limits → Full → Full
-  walkedFrom l w = joined (w .run) (walkedOver (g .n) l (w .run .active) (w .state))
+  walkedFrom l w = walkedFull (w .run) (walkedOver (g .n) l (w .run .active) (w .state))
 
   -- the extremes are taken before the gradients are computed anew
   unfoldable pub shrunk : Full → Full

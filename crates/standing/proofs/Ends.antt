@@ -10,7 +10,7 @@ use lib.ListN.{getD}
 use Rattle.alpha.specs.Weight.{two}
 use Rattle.alpha.specs.declared.Alpha.{Alpha}
 use Rattle.kernel.specs.declared.Kind.{Kind}
-use Rattle.rho.specs.Rho.{weighedC, joinedNu, positiveIn, signed, middle, levelOf}
+use Rattle.rho.specs.Rho.{shareWithC, joinedNu, positiveIn, signed, middle, levelOf}
 use Rattle.rho.specs.declared.Share.{Share}
 use Rattle.state.specs.Fields.{alphaIn}
 use Rattle.state.specs.Lists.{problem, State}
@@ -24,7 +24,7 @@ module _ (stands : ℕ → Bool) (n side : ℕ) (kind : Kind) (m m' : List ℕ) 
   alpha-is = alpha-same stands (problem n side kind m) (problem n side kind m') s t A
 
   weighed-by : (y y' : ℕ) (w w' : Alpha) (g g' : Float) (e e' : Share) → y ≡ y' → w ≡ w' → g ≡ g' → e ≡ e'
-      → weighedC (eqb y 1) w (signed (eqb y 1) g) e ≡ weighedC (eqb y' 1) w' (signed (eqb y' 1) g') e'
+      → shareWithC (eqb y 1) w (signed (eqb y 1) g) e ≡ shareWithC (eqb y' 1) w' (signed (eqb y' 1) g') e'
   weighed-by y y' w w' g g' e e' q1 q2 q3 q4 = rw (q1, q2, q3, q4)
 
   share-c-alike : (a : ℕ) → a ≤ n → shareCOver stands n (s .floats) (s .labels) a ≡ shareCOver stands n (t .floats) (t .labels) a
@@ -34,10 +34,10 @@ module _ (stands : ℕ → Bool) (n side : ℕ) (kind : Kind) (m m' : List ℕ) 
     where
       go : (x : Bool) → stands a ≡ x → shareCOver stands n (s .floats) (s .labels) a ≡ shareCOver stands n (t .floats) (t .labels) a
           → cond x
-          (weighedC (positiveIn (s .labels) a) (alphaIn n (s .floats) a) (signed (positiveIn (s .labels) a) (getD (s .floats) a nan)) (shareCOver stands n (s .floats) (s .labels) a))
+          (shareWithC (positiveIn (s .labels) a) (alphaIn n (s .floats) a) (signed (positiveIn (s .labels) a) (getD (s .floats) a nan)) (shareCOver stands n (s .floats) (s .labels) a))
           (shareCOver stands n (s .floats) (s .labels) a)
           ≡ cond x
-          (weighedC (positiveIn (t .labels) a) (alphaIn n (t .floats) a) (signed (positiveIn (t .labels) a) (getD (t .floats) a nan)) (shareCOver stands n (t .floats) (t .labels) a))
+          (shareWithC (positiveIn (t .labels) a) (alphaIn n (t .floats) a) (signed (positiveIn (t .labels) a) (getD (t .floats) a nan)) (shareCOver stands n (t .floats) (t .labels) a))
           (shareCOver stands n (t .floats) (t .labels) a)
       go true h z = weighed-by _ _ _ _ _ _ _ _ (A .labels a (omega arith) h) (alpha-is a (omega arith) h) (A .gradients a (omega arith) h) z
       go false h z = z

@@ -17,8 +17,8 @@ use Rattle.solver.specs.Pass.{chosen, rebuilt, shrunk, countedDown, stepped, lo
 use Rattle.solver.specs.Run.{problemOf, Full, full, withRun, goes, counterAt, ended, period, readyOf}
 use Rattle.solver.specs.declared.Given.{Given}
 use Rattle.start.specs.Start.{started}
-use Rattle.state.specs.Lists.{Problem, State}
-use Rattle.update.specs.Update.{over, updatedState}
+use Rattle.state.specs.Lists.{Problem, State, over}
+use Rattle.update.specs.Update.{updatedState}
 use Rattle.update.proofs.Left.{length-updated, alpha-other, gradient-active}
 use Rattle.standing.proofs.Alike.{Alike}
 use Rattle.standing.specs.Run.{chosenOver, passedOn, nextOver, runsOver, trainedOver}

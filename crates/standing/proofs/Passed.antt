@@ -6,7 +6,7 @@ use mathlib.Core.Path.{_≡_, refl, sym, ap, _∙_}
 use lib.Dec.{eqb}
 use lib.Ieee.{Float, nan, binary64, ofBits, add, mul}
 use lib.ListN.{getD}
-use Rattle.rho.specs.Rho.{nothing, weighedC, joinedNu, positiveIn, signed}
+use Rattle.rho.specs.Rho.{noShare, shareWithC, joinedNu, positiveIn, signed}
 use Rattle.rho.specs.declared.Share.{Share}
 use Rattle.state.specs.Fields.{alphaIn}
 use Rattle.standing.specs.End.{standing, folded, shareCOver, shareNuOver, sumOver}
@@ -36,12 +36,12 @@ module _ (stands : ℕ → Bool) (n : ℕ) (f : List Float) where
 
   module _ (y : List ℕ) where
     pub share-c-passes : (k : ℕ) → shareCOver stands n f y k
-        ≡ folded (λ j s. weighedC (positiveIn y j) (alphaIn n f j) (signed (positiveIn y j) (getD f j nan)) s) nothing (standing stands k)
+        ≡ folded (λ j s. shareWithC (positiveIn y j) (alphaIn n f j) (signed (positiveIn y j) (getD f j nan)) s) noShare (standing stands k)
     unfolding shareCOver
     share-c-passes = passed-over stands _ _ (shareCOver stands n f y) refl (λ k. refl)
 
     pub share-nu-passes : (label k : ℕ) → shareNuOver stands n f y label k
-        ≡ folded (λ j s. joinedNu (eqb (getD y j 0) label) (alphaIn n f j) (getD f j nan) s) nothing (standing stands k)
+        ≡ folded (λ j s. joinedNu (eqb (getD y j 0) label) (alphaIn n f j) (getD f j nan) s) noShare (standing stands k)
     unfolding shareNuOver joinedNu
     share-nu-passes label = passed-over stands _ _ (shareNuOver stands n f y label) refl (λ k. go k (stands k))
       where

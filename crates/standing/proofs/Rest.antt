@@ -13,9 +13,8 @@ use Rattle.solver.specs.Pass.{stepped}
 use Rattle.solver.specs.Run.{problemOf, Full, full, goes, readyOf}
 use Rattle.solver.specs.declared.Given.{Given}
 use Rattle.start.specs.Start.{laidTo, diagonalTo, started}
-use Rattle.state.specs.Lists.{Problem, State, Ready}
+use Rattle.state.specs.Lists.{Problem, State, Ready, over}
 use Rattle.trace.proofs.Rests.{same-laid, same-gathered, same-started}
-use Rattle.update.specs.Update.{over}
 use Rattle.update.proofs.Left.{length-updated, behind, alpha-other}
 use Rattle.alpha.specs.declared.Alpha.{Alpha}
 use Rattle.standing.specs.Run.{chosenOver, passedOn, nextOver, runsOver, trainedOver}

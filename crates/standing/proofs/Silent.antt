@@ -20,7 +20,7 @@ use Rattle.extreme.specs.declared.Found.the-variants.{At, Nobody}
 use Rattle.partner.specs.Curvature.{gapOf}
 use Rattle.partner.specs.Second.{isAt, placeOf, follows, gainOf, second, paired, pairedWith, choice}
 use Rattle.partner.specs.Sides.{riseOf, fallOf, mayRise, mayFall, rise, fall}
-use Rattle.rho.specs.Rho.{lbRaised, ubLowered, ubRaised, signed, weighedC, weighedNu, joinedNu, positiveIn, shareC, shareNu, middle, levelOf, levelBy}
+use Rattle.rho.specs.Rho.{lbRaised, ubLowered, ubRaised, signed, shareWithC, shareWithNu, joinedNu, positiveIn, shareC, shareNu, middle, levelOf, levelBy}
 use Rattle.rho.specs.declared.Share.{Share}
 use Rattle.state.specs.Fields.{gradient, alpha, alphaIn, positive}
 use Rattle.state.specs.Lists.{Problem, State}
@@ -162,8 +162,8 @@ module _ (stands : ℕ → Bool) (p : Problem) (s : State) (S : Silent stands p 
   high-nan : (e : Share) → ubRaised e nan ≡ e
   high-nan e = ap (λ (x : Float). record { free = e .free; sum = e .sum; ub = x; lb = e .lb }) (max-nan (e .ub))
 
-  weighed-nan : (x : Bool) (w : Alpha) (e : Share) → atLower w ≡ true → weighedC x w nan e ≡ e
-  unfolding weighedC
+  weighed-nan : (x : Bool) (w : Alpha) (e : Share) → atLower w ≡ true → shareWithC x w nan e ≡ e
+  unfolding shareWithC
   weighed-nan x w e h = rw h (go (atUpper w) x)
     where
       go : (y x : Bool) → cond y (cond x (lbRaised e nan) (ubLowered e nan)) (cond x (ubLowered e nan) (lbRaised e nan)) ≡ e
@@ -172,8 +172,8 @@ module _ (stands : ℕ → Bool) (p : Problem) (s : State) (S : Silent stands p 
       go false true = low-nan e
       go false false = lb-nan e
 
-  weighed-nu-nan : (w : Alpha) (e : Share) → atLower w ≡ true → weighedNu w nan e ≡ e
-  unfolding weighedNu
+  weighed-nu-nan : (w : Alpha) (e : Share) → atLower w ≡ true → shareWithNu w nan e ≡ e
+  unfolding shareWithNu
   weighed-nu-nan w e h = rw h (go (atUpper w))
     where
       go : (y : Bool) → cond y (lbRaised e nan) (ubRaised e nan) ≡ e
@@ -197,7 +197,7 @@ module _ (stands : ℕ → Bool) (p : Problem) (s : State) (S : Silent stands p 
       e' : Share
       e' = shareCOver stands (p .n) (s .floats) (s .labels) a
 
-      go : (y : Bool) → stands a ≡ y → e ≡ e' → weighedC x w (signed x (getD (s .floats) a nan)) e ≡ cond y (weighedC x w (signed x (getD (s .floats) a nan)) e') e'
+      go : (y : Bool) → stands a ≡ y → e ≡ e' → shareWithC x w (signed x (getD (s .floats) a nan)) e ≡ cond y (shareWithC x w (signed x (getD (s .floats) a nan)) e') e'
       go true h z = rw z
       go false h z = rw (S .gradients a (omega arith) h, signed-nan x) (weighed-nan x w e (S .weights a (omega arith) h) ∙ z)
 
@@ -218,7 +218,7 @@ module _ (stands : ℕ → Bool) (p : Problem) (s : State) (S : Silent stands p 
       e' : Share
       e' = shareNuOver stands (p .n) (s .floats) (s .labels) label a
 
-      same : (x : Bool) → weighedNu w nan e ≡ e → cond x (weighedNu w nan e) e ≡ e
+      same : (x : Bool) → shareWithNu w nan e ≡ e → cond x (shareWithNu w nan e) e ≡ e
       same true z = z
       same false z = refl
 

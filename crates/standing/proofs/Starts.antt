@@ -19,9 +19,8 @@ use Rattle.rows.specs.Added.{rowAdded}
 use Rattle.rows.proofs.Filled.{rowAdded-other, rowAdded-at}
 use Rattle.start.specs.Start.{laidTo, diagonalTo, joinedBy, gatheredTo, started}
 use Rattle.state.specs.Fields.{gradient, alpha, linear, diagonal, row, bound}
-use Rattle.state.specs.Lists.{Problem, problem, State, state, Ready}
+use Rattle.state.specs.Lists.{Problem, problem, State, state, Ready, over}
 use Rattle.trace.proofs.Rests.{same-laid, same-diagonal, same-gathered, same-started}
-use Rattle.update.specs.Update.{over}
 use Rattle.standing.proofs.Alike.{Alike, LentAlike}
 use Rattle.standing.proofs.Nan.{nan-add}
 use Rattle.standing.proofs.Silent.{Silent}

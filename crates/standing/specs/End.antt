@@ -6,7 +6,7 @@ use lib.Dec.{eqb}
 use lib.Ieee.{Float, nan, binary64, ofBits, add, mul, div}
 use lib.ListN.{getD}
 use Rattle.alpha.specs.Weight.{two}
-use Rattle.rho.specs.Rho.{nothing, weighedC, joinedNu, positiveIn, signed, middle, levelOf}
+use Rattle.rho.specs.Rho.{noShare, shareWithC, joinedNu, positiveIn, signed, middle, levelOf}
 use Rattle.rho.specs.declared.Level.{Level}
 use Rattle.rho.specs.declared.Share.{Share}
 use Rattle.state.specs.Fields.{alphaIn}
@@ -14,14 +14,14 @@ use Rattle.state.specs.Fields.{alphaIn}
 module _ (stands : ℕ → Bool) (n : ℕ) (f : List Float) where
   module _ (y : List ℕ) where
     unfoldable pub shareCOver : ℕ → Share
-    shareCOver zero = nothing
+    shareCOver zero = noShare
     shareCOver (suc k) =
         let s = shareCOver k in
-        cond (stands k) (weighedC (positiveIn y k) (alphaIn n f k) (signed (positiveIn y k) (getD f k nan)) s) s
+        cond (stands k) (shareWithC (positiveIn y k) (alphaIn n f k) (signed (positiveIn y k) (getD f k nan)) s) s
 
     -- of the positions of one label, 1 or 0
     unfoldable pub shareNuOver : ℕ → ℕ → Share
-    shareNuOver label zero = nothing
+    shareNuOver label zero = noShare
     shareNuOver label (suc k) = joinedNu (stands k && eqb (getD y k 0) label) (alphaIn n f k) (getD f k nan) (shareNuOver label k)
 
     -- by the rule that holds; r is +0 without the nu rule

@@ -9,7 +9,7 @@ use Rattle.alpha.specs.Weight.{atUpper, atLower}
 use Rattle.alpha.specs.declared.Alpha.{Alpha}
 use Rattle.kernel.specs.Matrix.{entryAt}
 use Rattle.rows.specs.Added.{rowAdded}
-use Rattle.state.specs.Lists.{Problem, State, state}
+use Rattle.state.specs.Lists.{Problem, State, over}
 use Rattle.state.specs.Fields.{alpha, bound}
 
 -- each gradient is the linear term, and each fixed gradient +0
@@ -29,7 +29,7 @@ joinedBy p b s i w =
     let f = rowAdded p s 0 (w .value) i 0 (p .n) in
     cond (atLower w)
     (s .floats)
-    (cond (atUpper w) (rowAdded p (state f (s .numbers) (s .labels)) (p .n) (bound b i) i 0 (p .n)) f)
+    (cond (atUpper w) (rowAdded p (over s f) (p .n) (bound b i) i 0 (p .n)) f)
 
 abbrev pub joined : Problem → List Float → State → ℕ → List Float
 joined p b s i = joinedBy p b s i (alpha p s i)
@@ -37,7 +37,7 @@ joined p b s i = joinedBy p b s i (alpha p s i)
 -- the first positions, in ascending order
 unfoldable pub gatheredTo : Problem → List Float → State → ℕ → List Float
 gatheredTo p b s zero = s .floats
-gatheredTo p b s (suc i) = joined p b (state (gatheredTo p b s i) (s .numbers) (s .labels)) i
+gatheredTo p b s (suc i) = joined p b (over s (gatheredTo p b s i)) i
 
 unfoldable pub started : Problem → List Float → State → List Float
-started p b s = gatheredTo p b (state (diagonalTo (p .n) (p .side) (p .matrix) (laidTo (p .n) (s .floats) (p .n)) (p .side)) (s .numbers) (s .labels)) (p .n)
+started p b s = gatheredTo p b (over s (diagonalTo (p .n) (p .side) (p .matrix) (laidTo (p .n) (s .floats) (p .n)) (p .side))) (p .n)

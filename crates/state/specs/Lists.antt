@@ -25,6 +25,10 @@ pub record State : Type 0 where
 abbrev pub state : List Float → List ℕ → List ℕ → State
 state f u y = record { floats = f; numbers = u; labels = y }
 
+-- the same numbers and labels, other floats
+abbrev pub over : State → List Float → State
+over s f = state f (s .numbers) (s .labels)
+
 -- every list is long enough, and every kernel index has its column
 pub record Ready (p : Problem) (s : State) : Type 0 where
   pub matrix : Matrix (p .side) (p .matrix)

@@ -17,14 +17,14 @@ use Rattle.shrink.specs.Drops.{dropsAt}
 use Rattle.shrink.specs.declared.Limits.{Limits}
 use Rattle.shrink.proofs.Walks.{walks}
 use Rattle.start.specs.Start.{started}
-use Rattle.state.specs.Lists.{State, state}
+use Rattle.state.specs.Lists.{State, state, over}
 use Rattle.state.specs.Moving.{moved}
 use Rattle.solver.specs.End.{activeAt, closed, trained}
 use Rattle.solver.specs.Pass.{ten, chosen, rebuilt, topsOf, restored, walkedFrom, shrunk, countedDown, stepped, looked, workedBy, onward, passed, next, runs}
 use Rattle.solver.specs.Run.{readyOf, problemOf, Full, full, withRun, goes, counterAt, reopened, period}
 use Rattle.solver.specs.declared.Given.{Given}
 use Rattle.solver.proofs.Laws.{chosen-below}
-use Rattle.update.specs.Update.{over, updatedState}
+use Rattle.update.specs.Update.{updatedState}
 use Rattle.trace.specs.Trace.{lookBy, lookAt}
 
 -- the lists kept, with an active count of n at the most
@@ -41,8 +41,8 @@ module _ (g : Given) (m : List ℕ) where
       go : (x : Bool)
           → cond x (choiceNu (problemOf g m) (w .state) (g .floor) (g .eps) (w .run .active)) (choiceC (problemOf g m) (w .state) (g .floor) (g .eps) (w .run .active)) ≡ Pair i j
           → i ≡ j → ⊥
-      go true e = Nu.pair-rule (problemOf g m) (w .state) (w .run .active) (g .floor) (g .eps) i j e .0 .apart
-      go false e = C.pair-rule (problemOf g m) (w .state) (w .run .active) (g .floor) (g .eps) i j e .0 .apart
+      go true e = Nu.pair-rule (problemOf g m) (w .state) (w .run .active) (g .floor) (g .eps) i j .0 e .1 .apart
+      go false e = C.pair-rule (problemOf g m) (w .state) (w .run .active) (g .floor) (g .eps) i j .0 e .1 .apart
 
   -- for what asks of the pair only that it is of two active positions
   pub pair-keeps : (P : State → Type 0) (b : List Float)

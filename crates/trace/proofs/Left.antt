@@ -17,10 +17,10 @@ use Rattle.solver.specs.Run.{problemOf, Full, goes}
 use Rattle.solver.specs.declared.Given.{Given}
 use Rattle.solver.proofs.Laws.{chosen-below}
 use Rattle.state.specs.Fields.{alpha, sample}
-use Rattle.state.specs.Lists.{State}
+use Rattle.state.specs.Lists.{State, over}
 use Rattle.state.specs.Moving.{moved}
 use Rattle.state.proofs.Moves.{length-fields}
-use Rattle.update.specs.Update.{over, pairAt}
+use Rattle.update.specs.Update.{pairAt}
 use Rattle.update.proofs.Left.{alpha-i, alpha-j}
 use Rattle.trace.specs.Trace.{Step, lookBy, lookAt, pairFrom, stepAt, stepsOf, added, traced}
 use Rattle.trace.proofs.Kept.{chosen-apart, rebuilt-keeps, counted-keeps}

@@ -10,12 +10,12 @@ use lib.ListN.{length, getD, set, length-set}
 use lib.Seq.{getD-set-other}
 use Rattle.alpha.specs.Weight.{atUpper, atLower, isFree, zero as nought}
 use Rattle.alpha.specs.declared.Alpha.{Alpha}
-use Rattle.reconstruct.specs.Reconstruct.{freshTo, freeTo, outerBy, outerAt, outerTo, innerBy, innerAt, innerTo, branched, reconstructed, withFloats}
+use Rattle.reconstruct.specs.Reconstruct.{freshTo, freeTo, outerBy, outerAt, outerTo, innerBy, innerAt, innerTo, branched, reconstructed}
 use Rattle.rows.specs.Added.{rowAdded}
 use Rattle.rows.proofs.Filled.{length-rowAdded, rowAdded-other}
 use Rattle.start.specs.Start.{laidTo, diagonalTo, joinedBy, joined, gatheredTo, started}
 use Rattle.state.specs.Fields.{alpha, bound}
-use Rattle.state.specs.Lists.{Problem, State, state}
+use Rattle.state.specs.Lists.{Problem, State, state, over}
 
 -- h is as long as f, and has what f has at the places from lo on and below hi
 pub record Same (lo hi : ℕ) (f h : List Float) : Type 0 where
@@ -107,7 +107,7 @@ module _ (p : Problem) (a : ℕ) (A : a ≤ p .n) (hi : ℕ) where
   same-outer s zero l = same-refl (p .n) hi (s .floats)
   same-outer s (suc k) l =
       let f = outerTo p a s k in
-      let t = withFloats s f in
+      let t = over s f in
       same-trans (p .n) hi (s .floats) f (outerAt p t a (a + k)) (same-outer s k (omega arith)) (same-outer-one t (a + k) (alpha p t (a + k)) (omega arith))
 
   same-inner-one : (s : State) (i : ℕ) (w : Alpha) → Same (p .n) hi (s .floats) (innerBy p s a i w)
@@ -121,7 +121,7 @@ module _ (p : Problem) (a : ℕ) (A : a ≤ p .n) (hi : ℕ) where
   same-inner s zero = same-refl (p .n) hi (s .floats)
   same-inner s (suc k) =
       let f = innerTo p a s k in
-      let t = withFloats s f in
+      let t = over s f in
       same-trans (p .n) hi (s .floats) f (innerAt p t a k) (same-inner s k) (same-inner-one t k (alpha p t k))
 
   same-branched : (s : State) → Same (p .n) hi (s .floats) (branched p a s)
@@ -134,4 +134,4 @@ module _ (p : Problem) (a : ℕ) (A : a ≤ p .n) (hi : ℕ) where
   same-reconstructed s =
       let f = freshTo (p .n) a (s .floats) (p .n - a) in
       same-either (p .n) hi (s .floats) (s .floats) _ (eqb a (p .n)) (same-refl (p .n) hi (s .floats))
-      (same-trans (p .n) hi (s .floats) f _ (same-fresh (s .floats) (p .n - a) (omega arith)) (same-branched (withFloats s f)))
+      (same-trans (p .n) hi (s .floats) f _ (same-fresh (s .floats) (p .n - a) (omega arith)) (same-branched (over s f)))

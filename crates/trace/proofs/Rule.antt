@@ -1,21 +1,32 @@
--- Each pair of a run is the one that the written rule chooses, and a run that ends by itself found none, twice. Assumes nothing.
-use Prim.Native.Nat.{ℕ, zero, suc, _-_, _<_}
+-- Each pair of a run is the one that the written rule names (specs/Rule.antt), and a run that ends by itself found none, twice:
+--   chosen-words    the pair that is chosen is the rule's, and the rule's pair is chosen
+--   none-words      none is chosen exactly where the rule stops
+--   pair-by-rule    the pair with which a pass steps is the rule's, in the state of its last look
+--   stop-by-rule    a pass that ends the run met no pair at both looks
+--   trained-stops   a run that ended by itself ended with such a pass
+--   trained-none    and in what it leaves there is no pair
+--   trained-fewer   it took fewer steps than the budget has; trained-done: so does no other run that isn't refused
+-- Assumes nothing.
+use Prim.Native.Nat.{ℕ, zero, suc, _+_, _-_, _<_}
 use mathlib.Core.Bool.{Bool, true, false, not, _&&_, cond, true≢false}
 use mathlib.Core.List.{List}
-use mathlib.Core.Logic.{_⊎_, inl, inr}
+use mathlib.Core.Logic.{_⊎_, inl, inr, ⊎-elim, _↔_}
 use mathlib.Core.Path.{_≡_, refl, sym, ap, _∙_}
 use native.Mathlib.Omega.{arith}
+use borrow.Author.Tests.{ne-eqb}
 use lib.Dec.{eqb, ltb}
-use lib.Ieee.{Float, binary64, mul, le}
-use Rattle.choose_c.specs.Choice.{extremesC, stopC, leadC, choiceC}
-use Rattle.choose_c.proofs.Rule as C
-use Rattle.choose_nu.specs.Choice.{risen, fallen, stopNu, choiceNu}
-use Rattle.choose_nu.proofs.Rule as Nu
+use lib.Ieee.{Float, binary64, add, mul, lt, le}
+use Rattle.choose_c.specs.Choice.{extremesC, choiceC}
+use Rattle.choose_c.proofs.Rule.{risenC, fallenC, rises-c, falls-c, sum-c}
+use Rattle.choose_nu.specs.Choice.{risen, fallen, choiceNu}
+use Rattle.choose_nu.proofs.Rule.{risenNu, fallenNu, rises-nu, falls-nu, sum-nu}
 use Rattle.extreme.specs.declared.Choice.{Choice}
 use Rattle.extreme.specs.declared.Choice.the-variants.{Pair, Optimal}
-use Rattle.extreme.proofs.Tests.{FirstGreatest, LastGreatest}
-use Rattle.partner.specs.Sides.{mayRise, rise}
-use Rattle.partner.proofs.Rule.{NoSecond, Pairs}
+use Rattle.extreme.specs.Rule.{everybody}
+use Rattle.floats.specs.Helpers.{maxOf}
+use Rattle.partner.specs.Rule.{Pairs, NoSecond, Sum}
+use Rattle.partner.specs.Second.{choice, second}
+use Rattle.partner.proofs.Rule.{chosenBy, choice-pair, choice-optimal, sum-is}
 use Rattle.shrink.specs.Drops.{walkedOver}
 use Rattle.solver.specs.End.{activeAt, closed, trained}
 use Rattle.solver.specs.Pass.{ten, chosen, rebuilt, topsOf, restored, walkedFrom, shrunk, countedDown, passed, next, runs}
@@ -23,62 +34,93 @@ use Rattle.solver.specs.Run.{problemOf, Full, withRun, goes, counterAt, reopene
 use Rattle.solver.specs.declared.Given.{Given}
 use Rattle.solver.specs.declared.Status.{Status}
 use Rattle.solver.specs.declared.Status.the-variants.{Going, Done, Refused}
-use Rattle.state.specs.Fields.{positive}
-use Rattle.state.specs.Lists.{State}
+use Rattle.solver.proofs.Laws.{counted-iterations}
+use Rattle.state.specs.Lists.{Problem, State}
+use Rattle.trace.specs.Rule as Words
+use Rattle.trace.specs.Rule.{Rises, Falls, isBelow, Level, ByRule, NoPair, PairIn, NoPairIn, Stops, Ended}
 use Rattle.trace.specs.Trace.{lookAt, pairFrom, startOf}
-use Rattle.trace.proofs.Passes.{look-run, pass-steps, pair-look, pass-ends}
+use Rattle.trace.proofs.Passes.{look-run, pass-steps, pair-look, Ends, pass-ends}
+use Rattle.trace.proofs.Trace.{iterations-are-steps, steps-going, closed-iterations}
+
+-- ---- the words, over those that stand
+
+module _ (stands : ℕ → Bool) (g : Given) (m : List ℕ) (s : State) (a : ℕ) where
+  abbrev p : Problem
+  p = problemOf g m
+
+  -- each label's extremes as the definitions have them, added
+  abbrev pub sumsBy : Bool → Bool → Float
+  sumsBy true t = add binary64 (risenNu stands p s a t .value) (fallenNu stands p s a t .value)
+  sumsBy false t = add binary64 (risenC stands p s a .value) (fallenC stands p s a .value)
+
+  pub sum-by : (nu t : Bool) → Sum p s (Rises stands g m s a nu t) (Falls stands g m s a nu t) (sumsBy nu t)
+  sum-by true t = sum-nu stands p s a t
+  sum-by false t = sum-c stands p s a
+
+  -- so the level of the words is theirs
+  pub level-words : (nu b : Bool) → (isBelow stands g m s a nu (sumsBy nu) ≡ b) ↔ Level stands g m s a nu b
+  level-words nu b = (λ e. record { sums = sumsBy nu; each = sum-by nu; tells = e }, λ w. back nu (w .sums) (w .each) ∙ w .tells)
+    where
+      same : (nu t : Bool) (x : Float) → Sum p s (Rises stands g m s a nu t) (Falls stands g m s a nu t) x → sumsBy nu t ≡ x
+      same true t x w = sum-is p s (rises-nu stands p s a t) (falls-nu stands p s a t) x w
+      same false t x w = sum-is p s (rises-c stands p s a) (falls-c stands p s a) x w
+
+      back : (nu : Bool) (x : Bool → Float) → ((t : Bool) → Sum p s (Rises stands g m s a nu t) (Falls stands g m s a nu t) (x t))
+          → isBelow stands g m s a nu (sumsBy nu) ≡ isBelow stands g m s a nu x
+      back true x w = rw (same true true (x true) (w true), same true false (x false) (w false))
+      back false x w = rw (same false true (x true) (w true))
+
+  -- the choice over those that stand, by either rule
+  abbrev pub choiceBy : Bool → Choice
+  choiceBy true = chosenBy stands p s (g .floor) a (risenNu stands p s a) (Rises stands g m s a true) (rises-nu stands p s a) (isBelow stands g m s a true (sumsBy true))
+  choiceBy false = chosenBy stands p s (g .floor) a (λ t. risenC stands p s a) (Rises stands g m s a false) (λ t. rises-c stands p s a) (isBelow stands g m s a false (sumsBy false))
+
+  pub pair-words : (nu : Bool) (i j : ℕ) → (choiceBy nu ≡ Pair i j) ↔ (Level stands g m s a nu false × Pairs stands p s (g .floor) a (Rises stands g m s a nu) i j)
+  pair-words nu i j = (λ e. let w = by nu .0 e in (level-words nu false .0 (w .0), w .1), λ w. by nu .1 (level-words nu false .1 (w .0), w .1))
+    where
+      by : (nu : Bool) → (choiceBy nu ≡ Pair i j) ↔ ((isBelow stands g m s a nu (sumsBy nu) ≡ false) × Pairs stands p s (g .floor) a (Rises stands g m s a nu) i j)
+      by true = choice-pair stands p s (g .floor) a (risenNu stands p s a) (Rises stands g m s a true) (rises-nu stands p s a) (isBelow stands g m s a true (sumsBy true)) i j
+      by false = choice-pair stands p s (g .floor) a (λ t. risenC stands p s a) (Rises stands g m s a false) (λ t. rises-c stands p s a) (isBelow stands g m s a false (sumsBy false)) i j
+
+  pub optimal-words : (nu : Bool) → (choiceBy nu ≡ Optimal) ↔ (Level stands g m s a nu true ⊎ NoSecond stands p s (g .floor) a (Rises stands g m s a nu))
+  optimal-words nu = (λ e. ⊎-elim (λ z. inl (level-words nu true .0 z)) inr (by nu .0 e), λ w. by nu .1 (⊎-elim (λ z. inl (level-words nu true .1 z)) inr w))
+    where
+      by : (nu : Bool) → (choiceBy nu ≡ Optimal) ↔ ((isBelow stands g m s a nu (sumsBy nu) ≡ true) ⊎ NoSecond stands p s (g .floor) a (Rises stands g m s a nu))
+      by true = choice-optimal stands p s (g .floor) a (risenNu stands p s a) (Rises stands g m s a true) (rises-nu stands p s a) (isBelow stands g m s a true (sumsBy true))
+      by false = choice-optimal stands p s (g .floor) a (λ t. risenC stands p s a) (Rises stands g m s a false) (λ t. rises-c stands p s a) (isBelow stands g m s a false (sumsBy false))
+
+  -- a choice that is one of these is the rule's
+  pub by-words : (c : Choice) → c ≡ choiceBy (g .nu) → (i j : ℕ) → (c ≡ Pair i j) ↔ ByRule stands g m s a i j
+  by-words c e i j = (
+    λ q. let w = pair-words (g .nu) i j .0 (sym e ∙ q) in record { level = w .0; pair = w .1 },
+    λ w. e ∙ pair-words (g .nu) i j .1 (w .level, w .pair),
+  )
+
+  pub none-by-words : (c : Choice) → c ≡ choiceBy (g .nu) → (c ≡ Optimal) ↔ NoPair stands g m s a
+  none-by-words c e = (λ q. optimal-words (g .nu) .0 (sym e ∙ q), λ w. e ∙ optimal-words (g .nu) .1 w)
+
+-- ---- the run's own choice: everybody stands
 
 module _ (g : Given) (m : List ℕ) where
-  -- i and j are the pair of the rule that holds, over the active positions of v
-  abbrev pub ByRule : Bool → Full → ℕ → ℕ → Type 0
-  ByRule true v i j =
-      let p = problemOf g m in
-      let s = v .state in
-      let a = v .run .active in
-      Pairs p s (g .floor) (risen p s a) a (stopNu (risen p s a) (fallen p s a) (g .eps)) i j × FirstGreatest (Nu.risers p s a (positive s j)) (rise p s) a i
-      × (positive s i ≡ positive s j)
-  ByRule false v i j =
-      let p = problemOf g m in
-      let s = v .state in
-      let a = v .run .active in
-      Pairs p s (g .floor) (leadC p s a) a (stopC (extremesC p s a) (g .eps)) i j × LastGreatest (mayRise p s) (rise p s) a i
-
-  -- the rule that holds stops, or finds no second
-  abbrev pub NoPair : Bool → Full → Type 0
-  NoPair true v =
-      let p = problemOf g m in
-      let s = v .state in
-      let a = v .run .active in
-      (stopNu (risen p s a) (fallen p s a) (g .eps) ≡ true) ⊎ NoSecond p s (g .floor) (risen p s a) a
-  NoPair false v =
-      let p = problemOf g m in
-      let s = v .state in
-      let a = v .run .active in
-      (stopC (extremesC p s a) (g .eps) ≡ true) ⊎ NoSecond p s (g .floor) (leadC p s a) a
-
-  chosen-by-rule : (v : Full) (i j : ℕ) → chosen g m v ≡ Pair i j → ByRule (g .nu) v i j
-  unfolding chosen
-  chosen-by-rule v i j = go (g .nu)
+  chosen-is : (v : Full) → chosen g m v ≡ choiceBy everybody g m (v .state) (v .run .active) (g .nu)
+  unfolding chosen choiceC choiceNu choice second extremesC risen fallen
+  chosen-is v = go (g .nu)
     where
       go : (x : Bool)
-          → cond x (choiceNu (problemOf g m) (v .state) (g .floor) (g .eps) (v .run .active)) (choiceC (problemOf g m) (v .state) (g .floor) (g .eps) (v .run .active)) ≡ Pair i j
-          → ByRule x v i j
-      go true e = Nu.pair-rule (problemOf g m) (v .state) (v .run .active) (g .floor) (g .eps) i j e
-      go false e = C.pair-rule (problemOf g m) (v .state) (v .run .active) (g .floor) (g .eps) i j e
+          → cond x (choiceNu (problemOf g m) (v .state) (g .floor) (g .eps) (v .run .active)) (choiceC (problemOf g m) (v .state) (g .floor) (g .eps) (v .run .active))
+          ≡ choiceBy everybody g m (v .state) (v .run .active) x
+      go true = refl
+      go false = refl
 
-  none-by-rule : (v : Full) → chosen g m v ≡ Optimal → NoPair (g .nu) v
-  unfolding chosen
-  none-by-rule v = go (g .nu)
-    where
-      go : (x : Bool)
-          → cond x (choiceNu (problemOf g m) (v .state) (g .floor) (g .eps) (v .run .active)) (choiceC (problemOf g m) (v .state) (g .floor) (g .eps) (v .run .active)) ≡ Optimal
-          → NoPair x v
-      go true e = Nu.optimal-rule (problemOf g m) (v .state) (v .run .active) (g .floor) (g .eps) .0 e
-      go false e = C.optimal-rule (problemOf g m) (v .state) (v .run .active) (g .floor) (g .eps) .0 e
+  pub chosen-words : (v : Full) (i j : ℕ) → (chosen g m v ≡ Pair i j) ↔ PairIn g m v i j
+  chosen-words v i j = by-words everybody g m (v .state) (v .run .active) (chosen g m v) (chosen-is v) i j
+
+  pub none-words : (v : Full) → (chosen g m v ≡ Optimal) ↔ NoPairIn g m v
+  none-words v = none-by-words everybody g m (v .state) (v .run .active) (chosen g m v) (chosen-is v)
 
   -- in the state of the pass's last look: counted down, and reconstructed where the first look found none
-  pub pair-by-rule : (w : Full) (i j : ℕ) → pairFrom g m w ≡ Pair i j → ByRule (g .nu) (lookAt g m (countedDown g m w)) i j
-  pair-by-rule w i j e = chosen-by-rule (lookAt g m (countedDown g m w)) i j (pair-look g m w i j e)
+  pub pair-by-rule : (w : Full) (i j : ℕ) → pairFrom g m w ≡ Pair i j → PairIn g m (lookAt g m (countedDown g m w)) i j
+  pair-by-rule w i j e = chosen-words (lookAt g m (countedDown g m w)) i j .0 (pair-look g m w i j e)
 
   -- ---- counting down ends no run by itself
 
@@ -129,51 +171,41 @@ module _ (g : Given) (m : List ℕ) where
   goes-going Done e = absurd (true≢false (sym e))
   goes-going Refused e = absurd (true≢false (sym e))
 
-  -- v is counted down: both of its looks found no pair
-  pub record Stops (v : Full) : Type 0 where
-    pub first : chosen g m v ≡ Optimal
-    pub second : chosen g m (rebuilt g m v) ≡ Optimal
-    pub first-rule : NoPair (g .nu) v
-    pub second-rule : NoPair (g .nu) (rebuilt g m v)
-
   module _ (b : List Float) where
     counted-not-done : (w : Full) → w .run .status ≡ Going → countedDown g m w .run .status ≡ Done → ⊥
     counted-not-done w h d = elim (counted-status w) [ inl e ↦ going-not-done (sym h ∙ sym e ∙ d) | inr e ↦ refused-not-done (sym e ∙ d) ]
 
-    -- a pass that ends the run met no pair at both looks
-    pub stop-by-rule : (w : Full) → w .run .status ≡ Going → passed g m b w .run .status ≡ Done → Stops (countedDown g m w)
-    stop-by-rule w h d = go (pairFrom g m w) refl
+    -- a pass that ends the run met no pair at both looks, and leaves what the second saw
+    pass-done : (w : Full) → w .run .status ≡ Going → passed g m b w .run .status ≡ Done → Ends g m b (countedDown g m w) (passed g m b w)
+    pass-done w h d = go (pairFrom g m w) refl
       where
-        go : (c : Choice) → pairFrom g m w ≡ c → Stops (countedDown g m w)
+        go : (c : Choice) → pairFrom g m w ≡ c → Ends g m b (countedDown g m w) (passed g m b w)
         go (Pair i j) e =
             let same = ap (λ q. q .status) (look-run g m (countedDown g m w) (chosen g m (countedDown g m w))) in
             absurd (counted-not-done w h (sym same ∙ sym (pass-steps g m b w i j e .status) ∙ d))
         go Optimal e = elim (pass-ends g m b w e) [
           | inl z ↦ absurd (counted-not-done w h (sym (ap (λ (x : Full). x .run .status) (z .1)) ∙ d))
-          | inr z ↦
-              record {
-                first = z .first;
-                second = z .second;
-                first-rule = none-by-rule (countedDown g m w) (z .first);
-                second-rule = none-by-rule (rebuilt g m (countedDown g m w)) (z .second);
-              }
+          | inr z ↦ z
         ]
 
-    -- a run that ended by itself ended with such a pass
-    pub record Ended (w : Full) (t : ℕ) : Type 0 where
-      pub pass : ℕ
-      pub before : pass < t
-      pub going : goes (runs g m b w pass .run .status) ≡ true
-      pub last : runs g m b w t ≡ passed g m b (runs g m b w pass)
-      pub stops : Stops (countedDown g m (runs g m b w pass))
+    pub stop-by-rule : (w : Full) → w .run .status ≡ Going → passed g m b w .run .status ≡ Done → Stops g m (countedDown g m w)
+    stop-by-rule w h d =
+        let z = pass-done w h d in
+        record { first = none-words (countedDown g m w) .0 (z .first); second = none-words (rebuilt g m (countedDown g m w)) .0 (z .second) }
 
-    pub run-stops : (w : Full) (t : ℕ) → w .run .status ≡ Going → runs g m b w t .run .status ≡ Done → Ended w t
+    -- so in what it leaves there is no pair
+    pass-none : (w : Full) → w .run .status ≡ Going → passed g m b w .run .status ≡ Done → NoPairIn g m (passed g m b w)
+    unfolding rebuilt
+    pass-none w h d = let z = pass-done w h d in rw (z .state, z .active) (none-words (rebuilt g m (countedDown g m w)) .0 (z .second))
+
+    -- a run that ended by itself ended with such a pass
+    pub run-stops : (w : Full) (t : ℕ) → w .run .status ≡ Going → runs g m b w t .run .status ≡ Done → Ended g m b w t
     unfolding runs next
     run-stops w zero h d = absurd (going-not-done (sym h ∙ d))
     run-stops w (suc t) h d = go (goes (runs g m b w t .run .status)) refl (run-stops w t h) d
       where
-        go : (x : Bool) → goes (runs g m b w t .run .status) ≡ x → (runs g m b w t .run .status ≡ Done → Ended w t)
-            → next g m b x (runs g m b w t) .run .status ≡ Done → Ended w (suc t)
+        go : (x : Bool) → goes (runs g m b w t .run .status) ≡ x → (runs g m b w t .run .status ≡ Done → Ended g m b w t)
+            → next g m b x (runs g m b w t) .run .status ≡ Done → Ended g m b w (suc t)
         go true e ih d =
             record {
               pass = t;
@@ -187,6 +219,31 @@ module _ (g : Given) (m : List ℕ) where
             let l = r .before in
             record { pass = r .pass; before = omega arith; going = r .going; last = rw e (r .last); stops = r .stops }
 
+    module _ (w : Full) (t : ℕ) (h : w .run .status ≡ Going) (d : runs g m b w t .run .status ≡ Done) where
+      e : Ended g m b w t
+      e = run-stops w t h d
+
+      abbrev v : Full
+      v = runs g m b w (e .pass)
+
+      v-going : v .run .status ≡ Going
+      v-going = goes-going (v .run .status) (e .going)
+
+      v-done : passed g m b v .run .status ≡ Done
+      v-done = ap (λ (x : Full). x .run .status) (sym (e .last)) ∙ d
+
+      run-none : NoPairIn g m (runs g m b w t)
+      run-none = rw (e .last) (pass-none v v-going v-done)
+
+      -- each pass but the last made a step
+      run-fewer : runs g m b w t .run .iterations < w .run .iterations + t
+      run-fewer =
+          let l = e .before in
+          let i = ap (λ (x : Full). x .run .iterations) (e .last) ∙ pass-done v v-going v-done .iterations ∙ counted-iterations g m v in
+          let k = iterations-are-steps g m b w (e .pass) in
+          let n = steps-going g m b w (e .pass) (e .going) in
+          omega arith
+
     closed-status : (budget : ℕ) (w : Full) → closed g m budget w .run .status ≡ w .run .status
     unfolding closed
     closed-status budget w = go (eqb (w .run .iterations) budget && ltb (w .run .active) (g .n))
@@ -196,6 +253,42 @@ module _ (g : Given) (m : List ℕ) where
         go false = refl
 
     -- the same of start, run and end
-    pub trained-stops : (budget : ℕ) (s : State) → trained g m b budget s .run .status ≡ Done → Ended (startOf g m b s) budget
+    pub trained-stops : (budget : ℕ) (s : State) → trained g m b budget s .run .status ≡ Done → Ended g m b (startOf g m b s) budget
     unfolding trained
     trained-stops budget s d = run-stops (startOf g m b s) budget refl (sym (closed-status budget (runs g m b (startOf g m b s) budget)) ∙ d)
+
+    -- it took fewer steps than the budget has
+    pub trained-fewer : (budget : ℕ) (s : State) → trained g m b budget s .run .status ≡ Done → trained g m b budget s .run .iterations < budget
+    unfolding trained
+    trained-fewer budget s d =
+        let w = startOf g m b s in
+        let c = closed-iterations g m b budget (runs g m b w budget) in
+        let l = run-fewer w budget refl (sym (closed-status budget (runs g m b w budget)) ∙ d) in
+        omega arith
+
+    -- and in what it leaves, over the positions that are active there, there is no pair
+    pub trained-none : (budget : ℕ) (s : State) → trained g m b budget s .run .status ≡ Done → NoPairIn g m (trained g m b budget s)
+    unfolding trained closed
+    trained-none budget s d =
+        let w = startOf g m b s in
+        let z = sym (closed-status budget (runs g m b w budget)) ∙ d in
+        let l = run-fewer w budget refl z in
+        rw (ne-eqb (runs g m b w budget .run .iterations) budget (λ q. omega arith)) (run-none w budget refl z)
+
+    -- with fewer steps than the budget has, and not refused, a run ended by itself
+    pub trained-done : (budget : ℕ) (s : State) → (trained g m b budget s .run .iterations ≡ budget → ⊥) → (trained g m b budget s .run .status ≡ Refused → ⊥)
+        → trained g m b budget s .run .status ≡ Done
+    unfolding trained goes
+    trained-done budget s few on = go (v .run .status) refl
+      where
+        v : Full
+        v = runs g m b (startOf g m b s) budget
+
+        go : (q : Status) → v .run .status ≡ q → closed g m budget v .run .status ≡ Done
+        go Going e =
+            let c = closed-iterations g m b budget v in
+            let i = iterations-are-steps g m b (startOf g m b s) budget in
+            let n = steps-going g m b (startOf g m b s) budget (rw e) in
+            absurd (few (omega arith))
+        go Done e = closed-status budget v ∙ e
+        go Refused e = absurd (on (closed-status budget v ∙ e))

@@ -185,7 +185,7 @@ module _ (g : Given) (m : List ℕ) (b : List Float) where
           omega arith
       go false e ih k = absurd (true≢false (sym k ∙ e))
 
-  closed-iterations : (budget : ℕ) (w : Full) → closed g m budget w .run .iterations ≡ w .run .iterations
+  pub closed-iterations : (budget : ℕ) (w : Full) → closed g m budget w .run .iterations ≡ w .run .iterations
   unfolding closed
   closed-iterations budget w = go (eqb (w .run .iterations) budget && ltb (w .run .active) (g .n))
     where

@@ -17,7 +17,7 @@ use Rattle.partner.specs.Second.{second, choice}
 use Rattle.reconstruct.specs.Reconstruct.{freshTo, counted, freeTo, weightedTo, outerBy, outerTo, innerBy, innerTo, branched, reconstructed}
 use Rattle.rows.specs.Added.{rowAdded}
 use Rattle.shrink.specs.Drops.{dropsBy, dropsAt}
-use Rattle.shrink.specs.Walk.{fallen, exchanged, dropped, visited, walked}
+use Rattle.shrink.specs.Walk.{countFallen, exchanged, dropped, visited, walked}
 use Rattle.solver.specs.Pass as Pass
 use Rattle.solver.specs.Pass.{chosen, rebuilt, topsOf, restored, walkedFrom, shrunk, countedDown, looked, workedBy, onward, passed, next, runs}
 use Rattle.solver.specs.Run.{goes, period}
@@ -78,5 +78,5 @@ steps =
 
 -- the sixth pass finds no pair at either look
 pub worked : traced given matrix ceilings (startOf given matrix ceilings lent) 7 ≡ steps
-unfolding traced added stepsOf pairFrom pairOn lookBy runs next passed onward workedBy looked Pass.stepped countedDown shrunk walkedFrom restored topsOf walked visited dropped exchanged fallen moved swappedFields swapped dropsAt dropsBy rebuilt chosen goes period choiceC extremesC choice second best Curvature.curvature rowAt digits rowAdded started gatheredTo joinedBy diagonalTo laidTo reconstructed branched innerTo innerBy outerTo outerBy weightedTo freeTo counted freshTo updated carried settled turnedBy stored shiftedTo pairAt pairOf Pair.stepped agreed agreeSecond agreeFirst differed differHigh differLow jRaised iRaised jCapped iCapped stepOf floored curved Ieee.lt Ieee.le Ieee.eq Ieee.neg Ieee.add Ieee.sub Ieee.mul Ieee.div Ieee.ofBits
+unfolding traced added stepsOf pairFrom pairOn lookBy runs next passed onward workedBy looked Pass.stepped countedDown shrunk walkedFrom restored topsOf walked visited dropped exchanged countFallen moved swappedFields swapped dropsAt dropsBy rebuilt chosen goes period choiceC extremesC choice second best Curvature.curvature rowAt digits rowAdded started gatheredTo joinedBy diagonalTo laidTo reconstructed branched innerTo innerBy outerTo outerBy weightedTo freeTo counted freshTo updated carried settled turnedBy stored shiftedTo pairAt pairOf Pair.clippedStep agreed agreeSecond agreeFirst differed differHigh differLow jRaised iRaised jCapped iCapped stepOf floored curved Ieee.lt Ieee.le Ieee.eq Ieee.neg Ieee.add Ieee.sub Ieee.mul Ieee.div Ieee.ofBits
 worked = refl

@@ -20,14 +20,14 @@ use Rattle.solver.specs.declared.Given.{Given}
 use Rattle.solver.proofs.Laws.{chosen-below}
 use Rattle.start.specs.Start.{started}
 use Rattle.state.specs.Fields.{sample}
-use Rattle.state.specs.Lists.{Problem, State, Ready}
+use Rattle.state.specs.Lists.{Problem, State, Ready, over}
 use Rattle.state.specs.Moving.{moved}
 use Rattle.state.proofs.Kept.{ready-floats, ready-moved}
 use Rattle.trace.specs.Trace.{Step, lookBy, lookAt, pairFrom, stepAt, stepsOf, added, traced, startOf}
 use Rattle.trace.proofs.Kept.{Keeps, rebuilt-keeps, counted-keeps, closed-keeps}
 use Rattle.trace.proofs.Passes.{pair-look, pass-steps, pass-ends}
 use Rattle.trace.proofs.Rests.{same-started, same-reconstructed}
-use Rattle.update.specs.Update.{over, updatedState}
+use Rattle.update.specs.Update.{updatedState}
 use Rattle.update.proofs.Left.{length-updated, alpha-other}
 use Rattle.travel.specs.Home.{leftBy, lastLeft}
 use Rattle.travel.specs.Travel.{Fresh}

@@ -17,14 +17,14 @@ use Rattle.solver.specs.Run.{problemOf, Full, withRun, counterAt, reopened, per
 use Rattle.solver.specs.declared.Given.{Given}
 use Rattle.solver.proofs.Laws.{chosen-below}
 use Rattle.start.specs.Start.{started}
-use Rattle.state.specs.Lists.{Problem, State, Ready}
+use Rattle.state.specs.Lists.{Problem, State, Ready, over}
 use Rattle.state.specs.Moving.{moved}
 use Rattle.state.proofs.Kept.{ready-floats, ready-moved}
 use Rattle.trace.specs.Trace.{lookBy, lookAt, pairFrom, startOf}
 use Rattle.trace.proofs.Kept.{Keeps, rebuilt-keeps, counted-keeps, look-keeps, pair-keeps, runs-keeps, trained-keeps}
 use Rattle.trace.proofs.Passes.{look-run, pair-look, pass-steps, pass-ends}
 use Rattle.trace.proofs.Rests.{same-started, same-reconstructed}
-use Rattle.update.specs.Update.{over, updated, updatedState}
+use Rattle.update.specs.Update.{updated, updatedState}
 use Rattle.update.proofs.Left.{length-updated, behind}
 use Rattle.travel.specs.Travel.{Fresh, Travelled, Rearranged, Stays}
 use Rattle.travel.proofs.Rearranged.{rearranged-none, rearranged-moved, one-rearrangement, travelled-rearranged}

@@ -8,19 +8,19 @@ use lib.Ieee.{Float}
 use lib.ListN.{length, getD}
 use Rattle.kernel.specs.Row.{kernelIndex}
 use Rattle.reconstruct.specs.Reconstruct.{reconstructed}
-use Rattle.readings.specs.Order.{Within}
+use Rattle.readings.specs.Order.{NamesSamples}
 use Rattle.solver.specs.End.{trained}
 use Rattle.solver.specs.Pass.{runs}
 use Rattle.solver.specs.Run.{problemOf, Full}
 use Rattle.solver.specs.declared.Given.{Given}
 use Rattle.start.specs.Start.{started}
-use Rattle.state.specs.Lists.{Problem, State, state, Ready}
+use Rattle.state.specs.Lists.{Problem, State, state, Ready, over}
 use Rattle.state.specs.Moving.{swappedFields, moved}
 use Rattle.state.proofs.Kept.{ready-floats, ready-moved}
 use Rattle.state.proofs.Moves.{source, source-below, fields-at}
 use Rattle.trace.proofs.Kept.{pair-keeps, runs-keeps, trained-keeps}
 use Rattle.trace.proofs.Rests.{same-started, same-reconstructed}
-use Rattle.update.specs.Update.{over, updated, updatedState}
+use Rattle.update.specs.Update.{updated, updatedState}
 use Rattle.update.proofs.Left.{length-updated}
 use Rattle.travel.specs.Travel.{Paired}
 
@@ -51,7 +51,7 @@ unfolding moved
 numbered-moved p s i j a b w =
     record { ready = ready-moved (w .ready) i j a b; paired = paired-moved (p .n) (s .numbers) i j a b (w .ready .indexed .long) (w .paired) }
 
-numbered-within : (p : Problem) (s : State) → p .side ≡ p .n → Numbered p s → Within (p .n) (s .numbers)
+numbered-within : (p : Problem) (s : State) → p .side ≡ p .n → Numbered p s → NamesSamples (p .n) (s .numbers)
 numbered-within p s e w =
     let l = w .ready .indexed .long in
     record { long = omega arith; below = λ k c. let x = w .paired .same k c in let y = w .ready .indexed .below k c in omega arith }
@@ -76,5 +76,5 @@ module _ (g : Given) (m : List ℕ) (b : List Float) where
 
   -- the order that is left names samples only
   pub trained-within : (budget : ℕ) (s : State) → Ready p s → Paired (g .n) (s .numbers) → g .side ≡ g .n
-      → Within (g .n) (trained g m b budget s .state .numbers)
+      → NamesSamples (g .n) (trained g m b budget s .state .numbers)
   trained-within budget s r q e = numbered-within p (trained g m b budget s .state) e (trained-numbered budget s (record { ready = r; paired = q }))

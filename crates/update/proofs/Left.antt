@@ -8,9 +8,9 @@ use lib.ListN.{length, getD, set, length-set}
 use lib.Seq.{getD-set-same, getD-set-other}
 use Rattle.alpha.specs.Weight.{weight, atUpper}
 use Rattle.alpha.specs.declared.Alpha.{Alpha}
-use Rattle.state.specs.Lists.{Problem, State}
+use Rattle.state.specs.Lists.{Problem, State, over}
 use Rattle.state.specs.Fields.{gradient, gradientFixed, alpha, row, bound}
-use Rattle.update.specs.Update.{over, stored, settled, carried, shiftedTo, pairAt, updated, updatedState}
+use Rattle.update.specs.Update.{stored, settled, carried, shiftedTo, pairAt, updated, updatedState}
 use Rattle.update.specs.declared.Pair.{Pair}
 use Rattle.update.proofs.Filled.{length-shiftedTo, shiftedTo-other, shiftedTo-at}
 use Rattle.update.proofs.Turned.{turnedPlace, length-turnedBy, turnedBy-other, turnedBy-at}

@@ -13,7 +13,7 @@ use Rattle.rounding.proofs.Products.{mul-neg}
 use Rattle.rows.specs.Added.{rowAdded}
 use Rattle.state.specs.Lists.{Problem, State}
 use Rattle.state.specs.Fields.{row}
-use Rattle.update.specs.Update.{signedBy, turnedBy}
+use Rattle.update.specs.Update.{turnSigned, turnedBy}
 use Rattle.rows.proofs.Filled.{length-rowAdded, rowAdded-other, rowAdded-at}
 
 -- a negated multiple that is added is the multiple that is taken away, bit for bit
@@ -21,7 +21,7 @@ pub taken-away : (g x r : Float) → add binary64 g (mul binary64 (neg x) r) ≡
 unfolding sub
 taken-away g x r = ap (add binary64 g) (mul-neg binary64 x r)
 
-signed-added : (up : Bool) (g x r : Float) → add binary64 g (mul binary64 (signedBy up x) r) ≡ cond up (sub binary64 g (mul binary64 x r)) (add binary64 g (mul binary64 x r))
+signed-added : (up : Bool) (g x r : Float) → add binary64 g (mul binary64 (turnSigned up x) r) ≡ cond up (sub binary64 g (mul binary64 x r)) (add binary64 g (mul binary64 x r))
 signed-added true g x r = taken-away g x r
 signed-added false g x r = refl
 
@@ -37,27 +37,27 @@ module _ (p : Problem) (s : State) (k : ℕ) (up : Bool) (w : Alpha) (count : �
   unfolding turnedBy
   kept h = rw h
 
-  pub told : Bool·beq up (atUpper w) ≡ false → rowAdded p s (p .n) (signedBy up (w .upper)) k 0 count ≡ turnedBy p s k up w count
+  pub told : Bool·beq up (atUpper w) ≡ false → rowAdded p s (p .n) (turnSigned up (w .upper)) k 0 count ≡ turnedBy p s k up w count
   unfolding turnedBy
   told h = rw h
 
-  by-turn : (P : List Float → Type 0) → P (s .floats) → P (rowAdded p s (p .n) (signedBy up (w .upper)) k 0 count) → P (turnedBy p s k up w count)
+  by-turn : (P : List Float → Type 0) → P (s .floats) → P (rowAdded p s (p .n) (turnSigned up (w .upper)) k 0 count) → P (turnedBy p s k up w count)
   unfolding turnedBy
   by-turn P h g = go (Bool·beq up (atUpper w))
     where
-      go : (t : Bool) → P (cond t (s .floats) (rowAdded p s (p .n) (signedBy up (w .upper)) k 0 count))
+      go : (t : Bool) → P (cond t (s .floats) (rowAdded p s (p .n) (turnSigned up (w .upper)) k 0 count))
       go true = h
       go false = g
 
   -- ---- place by place
 
   pub length-turnedBy : length (turnedBy p s k up w count) ≡ length (s .floats)
-  length-turnedBy = by-turn (λ f. length f ≡ length (s .floats)) refl (length-rowAdded p s (p .n) (signedBy up (w .upper)) k 0 count)
+  length-turnedBy = by-turn (λ f. length f ≡ length (s .floats)) refl (length-rowAdded p s (p .n) (turnSigned up (w .upper)) k 0 count)
 
   pub turnedBy-other : (q : ℕ) → ((h : ℕ) → h < count → q ≡ p .n + h → ⊥) → getD (turnedBy p s k up w count) q nan ≡ getD (s .floats) q nan
   turnedBy-other q out =
       by-turn (λ f. getD f q nan ≡ getD (s .floats) q nan) refl
-      (rowAdded-other p s (p .n) (signedBy up (w .upper)) k 0 count q (λ h g e. out h g (omega arith)))
+      (rowAdded-other p s (p .n) (turnSigned up (w .upper)) k 0 count q (λ h g e. out h g (omega arith)))
 
   pub turnedBy-at : (h : ℕ) → h < count → p .n + h < length (s .floats)
       → getD (turnedBy p s k up w count) (p .n + h) nan ≡ turnedPlace up w (getD (s .floats) (p .n + h) nan) (row p s k h)
@@ -65,7 +65,7 @@ module _ (p : Problem) (s : State) (k : ℕ) (up : Bool) (w : Alpha) (count : �
   turnedBy-at h l m = go (Bool·beq up (atUpper w))
     where
       x : Float
-      x = signedBy up (w .upper)
+      x = turnSigned up (w .upper)
 
       g : Float
       g = getD (s .floats) (p .n + h) nan

@@ -67,9 +67,9 @@ agreed p delta =
 
 -- ---- the whole
 
-unfoldable pub stepped : Bool → Pair → Float → Pair
-stepped agree p delta = cond agree (agreed p delta) (differed p delta)
+unfoldable pub clippedStep : Bool → Pair → Float → Pair
+clippedStep agree p delta = cond agree (agreed p delta) (differed p delta)
 
 unfoldable pub pairOf : Alpha → Alpha → Float → Float → Float → Float → Float → Bool → Float → Pair
 pairOf wi wj gi gj di dj r agree floor =
-    stepped agree (pair wi wj) (stepOf agree gi gj (floored floor (curved agree di dj r)))
+    clippedStep agree (pair wi wj) (stepOf agree gi gj (floored floor (curved agree di dj r)))

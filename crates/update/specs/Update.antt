@@ -8,7 +8,7 @@ use lib.ListN.{getD, set}
 use Rattle.alpha.specs.Weight.{weight, atUpper}
 use Rattle.alpha.specs.declared.Alpha.{Alpha}
 use Rattle.rows.specs.Added.{rowAdded}
-use Rattle.state.specs.Lists.{Problem, State, state}
+use Rattle.state.specs.Lists.{Problem, State, state, over}
 use Rattle.state.specs.Fields.{gradient, alpha, diagonal, row, bound}
 use Rattle.update.specs.Pair.{pairOf}
 use Rattle.update.specs.declared.Pair.{Pair}
@@ -28,21 +28,17 @@ shiftedTo p s i j xi xj (suc k) =
 
 -- ---- a position takes its new weight
 
--- the same numbers and labels, other floats
-abbrev pub over : State → List Float → State
-over s f = state f (s .numbers) (s .labels)
-
 unfoldable pub stored : ℕ → List Float → ℕ → Alpha → List Float
 stored n f k w = set (set f (2 * n + k) (w .value)) (3 * n + k) (w .upper)
 
-abbrev pub signedBy : Bool → Float → Float
-signedBy up x = cond up (neg x) x
+abbrev pub turnSigned : Bool → Float → Float
+turnSigned up x = cond up (neg x) x
 
 -- w is the record of position k, and up whether the position counts as at upper. Where w turns that, w's ceiling times row k is taken
 -- from the first fixed gradients, or added to them
 unfoldable pub turnedBy : Problem → State → ℕ → Bool → Alpha → ℕ → List Float
 turnedBy p s k up w count =
-    cond (Bool·beq up (atUpper w)) (s .floats) (rowAdded p s (p .n) (signedBy up (w .upper)) k 0 count)
+    cond (Bool·beq up (atUpper w)) (s .floats) (rowAdded p s (p .n) (turnSigned up (w .upper)) k 0 count)
 
 -- position k takes the value x and the ceiling of its place; it counted as at upper by its own ceiling
 unfoldable pub settled : Problem → List Float → State → ℕ → Float → ℕ → List Float

@@ -9,7 +9,7 @@ ghost use Rattle.state.specs.Fields.{bound};
 ghost use Rattle.state.specs.Lists.{problem, state, Ready};
 ghost use Rattle.update.specs.Pair.{holding, floored, stepOf, iCapped, jCapped, iRaised, jRaised};
 ghost use Rattle.update.specs.Pair.{differLow, differHigh, differed, agreeFirst, agreeSecond, agreed, pairOf};
-ghost use Rattle.update.specs.Update.{pairAt, shiftedTo, signedBy, settled, carried, updated};
+ghost use Rattle.update.specs.Update.{pairAt, shiftedTo, turnSigned, settled, carried, updated};
 use alpha::Alpha;
 use kernel::Kind;
 
@@ -239,7 +239,7 @@ fn shift(
 }
 
 fn signed(up: bool, x: f64) -> f64
-    ensures { λ r. ⌜ r ≡ signedBy up x ⌝ }
+    ensures { λ r. ⌜ r ≡ turnSigned up x ⌝ }
 {
     if up { -x } else { x }
 }

@@ -3,7 +3,7 @@ use mathlib.Core.Path.{_≡_, refl, sym, _∙_}
 use native.Mathlib.Omega.{arith}
 use borrow.Author.Tests.{not-true, not-false}
 use Rattle.state.specs.Lists.{state}
-use Rattle.shrink.specs.Walk.{fallen}
+use Rattle.shrink.specs.Walk.{countFallen}
 use Rattle.shrink.specs.Drops.{dropsAt}
 use Rattle.shrink.proofs.Laws.{fallen-kept, fallen-dropped, fallen-end}
 use borrow.Author.Needs.{needs}
@@ -12,7 +12,7 @@ use Rattle.shrink.proofs.fall.Tie as tie
 
 abbrev Inv-loop : tie.InvT-loop
 Inv-loop f u y n l i start a₀ a =
-    (a ≤ start) × (fallen (dropsAt n l) (state f u y) i start ≡ fallen (dropsAt n l) (state f u y) i a)
+    (a ≤ start) × (countFallen (dropsAt n l) (state f u y) i start ≡ countFallen (dropsAt n l) (state f u y) i a)
 
 abbrev μ-loop : tie.MeasureT-loop
 μ-loop f u y n l i start a₀ a = a
