@@ -5,3 +5,4 @@ pub mod Clip
 pub mod Step
 pub mod Kept
 pub mod Pairs
+pub mod Gain

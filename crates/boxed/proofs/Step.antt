@@ -24,7 +24,7 @@ entry-within x e = within-of binary64 2074 limit x limit-parts (record { fit = e
 twice-within : (r : Float) → Entry r → Within binary64 2075 (mul binary64 two r)
 twice-within r e = rw two-is (within-twice binary64 2074 r (lit< tt) (entry-within r e))
 
-curvature-within : (agree : Bool) (di dj r : Float) → Entry di → Entry dj → Entry r → Within binary64 2076 (curved agree di dj r)
+pub curvature-within : (agree : Bool) (di dj r : Float) → Entry di → Entry dj → Entry r → Within binary64 2076 (curved agree di dj r)
 unfolding curved
 curvature-within agree di dj r ei ej e = go agree
   where

@@ -11,6 +11,7 @@ use Rattle.state.specs.Lists.{Problem, State, state}
 use Rattle.state.proofs.Kept.{ready-floats}
 use Rattle.trace.proofs.Rests.{Same, same-reconstructed}
 use Rattle.boxrun.specs.Boxed.{LentBoxed, Boxed}
+use Rattle.boxrun.proofs.Owned.{owned-kept}
 
 module _ {b : Float} {p : Problem} {s : State} (f : List Float) {hi : ℕ} (e : Same (2 * p .n) hi (s .floats) f) where
   pub kept-lent : 4 * p .n ≤ hi → LentBoxed b p s → LentBoxed b p (state f (s .numbers) (s .labels))
@@ -20,7 +21,7 @@ module _ {b : Float} {p : Problem} {s : State} (f : List Float) {hi : ℕ} (e : 
       same k h = ap₂ weight (e .at (2 * p .n + k) (omega arith) (omega arith)) (e .at (3 * p .n + k) (omega arith) (omega arith))
 
   pub kept-boxed : 5 * p .n + p .side ≤ hi → Boxed b p s → Boxed b p (state f (s .numbers) (s .labels))
-  kept-boxed l w = record { lent = kept-lent (omega arith) (w .lent); own = λ c h. e .at (5 * p .n + c) (omega arith) (omega arith) ∙ w .own c h }
+  kept-boxed l w = record { lent = kept-lent (omega arith) (w .lent); own = owned-kept {p = p} {s = s} f e l (record { ready = w .lent .ready; own = w .own }) .own }
 
 pub boxed-reconstructed : {b : Float} {p : Problem} (s : State) (a : ℕ) → a ≤ p .n → Boxed b p s → Boxed b p (state (reconstructed p a s) (s .numbers) (s .labels))
 boxed-reconstructed {b} {p} s a l w =

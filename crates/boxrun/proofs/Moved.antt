@@ -9,8 +9,9 @@ use Rattle.state.specs.Fields.{alpha}
 use Rattle.state.specs.Lists.{Problem, State}
 use Rattle.state.specs.Moving.{moved}
 use Rattle.state.proofs.Kept.{ready-moved}
-use Rattle.state.proofs.Moves.{source, source-below, swapped-at, fields-at, fields-behind}
+use Rattle.state.proofs.Moves.{source, source-below, swapped-at, fields-at}
 use Rattle.boxrun.specs.Boxed.{Boxed}
+use Rattle.boxrun.proofs.Owned.{owned-moved}
 
 module _ {b : Float} {p : Problem} where
   pub boxed-moved : {s : State} → Boxed b p s → (i j : ℕ) → i < p .n → j < p .n → Boxed b p (moved (p .n) s i j)
@@ -21,7 +22,7 @@ module _ {b : Float} {p : Problem} where
       held = λ k h. rw (same k h) (w .lent .held (source i j k) (source-below (p .n) i j k hi hj h));
       label = λ k h. rw (swapped-at 0 (s .labels) i j k (omega arith) (omega arith)) (w .lent .label (source i j k) (source-below (p .n) i j k hi hj h));
     };
-    own = λ c h. fields-behind nan (p .n) (s .floats) i j hi hj 5 (5 * p .n + c) (omega arith) (omega arith) ∙ w .own c h;
+    own = unfold moved in owned-moved (record { ready = w .lent .ready; own = w .own }) i j hi hj .own;
   }
     where
       long : 7 * p .n ≤ length (s .floats)

@@ -1,54 +1,21 @@
 -- The start leaves a run in the box. Assumes nothing.
-use Prim.Native.Nat.{ℕ, zero, suc, _+_, _*_, _≤_, _<_}
+use Prim.Native.Nat.{_+_, _*_}
 use mathlib.Core.List.{List}
-use mathlib.Core.Path.{_≡_, _∙_}
-use native.Mathlib.Decide.{ℕ-discrete}
 use native.Mathlib.Omega.{arith}
-use lib.Ieee.{Float, nan}
-use lib.ListN.{length, getD, set}
-use lib.Seq.{getD-set-same, getD-set-other}
-use Rattle.kernel.specs.Matrix.{entryAt}
+use lib.Ieee.{Float}
 use Rattle.start.specs.Start.{laidTo, diagonalTo, gatheredTo, started}
 use Rattle.state.specs.Lists.{Problem, State, state}
 use Rattle.trace.proofs.Rests.{same-laid, same-diagonal, same-gathered}
 use Rattle.boxrun.specs.Boxed.{LentBoxed, Boxed}
 use Rattle.boxrun.proofs.Kept.{kept-lent, kept-boxed}
-
-module _ (p : Problem) (f : List Float) where
-  abbrev n : ℕ
-  n = p .n
-
-  abbrev side : ℕ
-  side = p .side
-
-  abbrev m : List ℕ
-  m = p .matrix
-
-  long : (c : ℕ) → length (diagonalTo n side m f c) ≡ length f
-  long c = same-diagonal p f c .long
-
-  diagonal-own : (c k : ℕ) → k < c → 5 * n + c ≤ length f → getD (diagonalTo n side m f c) (5 * n + k) nan ≡ entryAt side m k k
-  unfolding diagonalTo
-  diagonal-own zero k h l = let z : ⊥ = omega arith in absurd z
-  diagonal-own (suc c) k h l = go (diagonal-own c k) (ℕ-discrete k c)
-    where
-      go : (k < c → 5 * n + c ≤ length f → getD (diagonalTo n side m f c) (5 * n + k) nan ≡ entryAt side m k k) → Dec (k ≡ c)
-          → getD (set (diagonalTo n side m f c) (5 * n + c) (entryAt side m c c)) (5 * n + k) nan ≡ entryAt side m k k
-      go before (yes e) =
-          rw e (getD-set-same (diagonalTo n side m f c) (5 * n + c) (entryAt side m c c) nan (rw (long c) (omega arith)))
-      go before (no e) =
-          getD-set-other (diagonalTo n side m f c) (5 * n + c) (5 * n + k) (entryAt side m c c) nan (λ q. e (omega arith))
-          ∙ before (omega arith) (omega arith)
+use Rattle.boxrun.proofs.Owned.{diagonal-own}
 
 -- the diagonal in its field puts a lent state in the box
 diagonal-boxed : {b : Float} {p : Problem} {s : State} → LentBoxed b p s
     → Boxed b p (state (diagonalTo (p .n) (p .side) (p .matrix) (s .floats) (p .side)) (s .numbers) (s .labels))
 diagonal-boxed {b} {p} {s} w = record {
   lent = kept-lent {b = b} {p = p} {s = s} (diagonalTo (p .n) (p .side) (p .matrix) (s .floats) (p .side)) (same-diagonal p (s .floats) (p .side)) (omega arith) w;
-  own = λ c h.
-      let l = w .ready .floats in
-      let q = w .ready .square in
-      diagonal-own p (s .floats) (p .side) c h (omega arith);
+  own = λ c h. let l = w .ready .floats in let q = w .ready .square in diagonal-own p (s .floats) (p .side) c h (omega arith);
 }
 
 pub boxed-started : (p : Problem) (bs : List Float) {b : Float} {s : State} → LentBoxed b p s → Boxed b p (state (started p bs s) (s .numbers) (s .labels))
