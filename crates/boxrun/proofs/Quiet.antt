@@ -68,9 +68,12 @@ module _ (stands : ℕ → Bool) (g : Given) (m : List ℕ) (s : State) (a : ℕ
   -- who holds a label's fall stands, may fall, and is of that label where the nu rule holds: so the holder of its label's rise is the one of t
   holder : (nu t : Bool) (i j : ℕ) → Rises stands g m s a nu t i → Falls stands g m s a nu t j → (i < a) × (j < a) × Rises stands g m s a nu (positive s j) i × T (stands j && mayFall p s j)
   holder true t i j r f =
-      let o = and-r (stands j) (ofLabel t (positive s j) && mayFall p s j) (f .eligible) in
-      (r .inside, f .inside, rw (label-is t (positive s j) (and-l (ofLabel t (positive s j)) (mayFall p s j) o)) at r,
-       both (stands j) (mayFall p s j) (and-l (stands j) (ofLabel t (positive s j) && mayFall p s j) (f .eligible)) (and-r (ofLabel t (positive s j)) (mayFall p s j) o))
+      let o = and-r (stands j) (ofLabel t (positive s j) && mayFall p s j) (f .eligible) in (
+        r .inside,
+        f .inside,
+        rw (label-is t (positive s j) (and-l (ofLabel t (positive s j)) (mayFall p s j) o)) at r,
+        both (stands j) (mayFall p s j) (and-l (stands j) (ofLabel t (positive s j) && mayFall p s j) (f .eligible)) (and-r (ofLabel t (positive s j)) (mayFall p s j) o),
+      )
     where
       both : (a b : Bool) → T a → T b → T (a && b)
       both true b t u = u

@@ -1,4 +1,4 @@
--- With shrinking off the order stays as it was, and no run is refused. Assumes nothing.
+-- With shrinking off the order stays as it was, all n positions stay active, and no run is refused. Assumes nothing.
 use Prim.Native.Nat.{ℕ, zero, suc, _-_}
 use mathlib.Core.Bool.{Bool, true, false, _&&_, cond, true≢false}
 use mathlib.Core.List.{List}
@@ -14,65 +14,66 @@ use Rattle.solver.specs.Run.{Full, withRun, goes, counterAt, period}
 use Rattle.solver.specs.declared.Given.{Given}
 use Rattle.state.specs.Lists.{State}
 
--- the order and kernel indices are u, and nothing was refused
-pub record Still (u : List ℕ) (w : Full) : Type 0 where
+-- the order and kernel indices are u, all n are active, and nothing was refused
+pub record Still (u : List ℕ) (n : ℕ) (w : Full) : Type 0 where
   pub order : w .state .numbers ≡ u
+  pub active : w .run .active ≡ n
   pub free : stuck (w .run .status) ≡ false
 
 module _ (g : Given) (m : List ℕ) (b : List Float) (off : g .shrinking ≡ false) (u : List ℕ) where
-  counted-still : (w : Full) → Still u w → Still u (countedDown g m w)
+  counted-still : (w : Full) → Still u (g .n) w → Still u (g .n) (countedDown g m w)
   unfolding countedDown
   counted-still w s = go (ltb 0 (w .run .counter - 1)) (g .shrinking) off
     where
       v : Full
       v = withRun w (counterAt (w .run) (period (g .n)))
 
-      go : (x y : Bool) → y ≡ false → Still u (cond x (withRun w (counterAt (w .run) (w .run .counter - 1))) (cond y (shrunk g m v) v))
-      go true y e = record { order = s .order; free = s .free }
+      go : (x y : Bool) → y ≡ false → Still u (g .n) (cond x (withRun w (counterAt (w .run) (w .run .counter - 1))) (cond y (shrunk g m v) v))
+      go true y e = record { order = s .order; active = s .active; free = s .free }
       go false true e = absurd (true≢false e)
-      go false false e = record { order = s .order; free = s .free }
+      go false false e = record { order = s .order; active = s .active; free = s .free }
 
-  stepped-still : (w : Full) (i j : ℕ) → Still u w → Still u (stepped g m b w i j)
+  stepped-still : (w : Full) (i j : ℕ) → Still u (g .n) w → Still u (g .n) (stepped g m b w i j)
   unfolding stepped
-  stepped-still w i j s = record { order = s .order; free = s .free }
+  stepped-still w i j s = record { order = s .order; active = s .active; free = s .free }
 
-  looked-still : (w : Full) (c : Choice) → Still u w → Still u (looked g m b w c)
+  looked-still : (w : Full) (c : Choice) → Still u (g .n) w → Still u (g .n) (looked g m b w c)
   unfolding looked stuck
-  looked-still w (Pair i j) s = stepped-still (withRun w (counterAt (w .run) 1)) i j (record { order = s .order; free = s .free })
-  looked-still w Optimal s = record { order = s .order; free = refl }
+  looked-still w (Pair i j) s = stepped-still (withRun w (counterAt (w .run) 1)) i j (record { order = s .order; active = s .active; free = s .free })
+  looked-still w Optimal s = record { order = s .order; active = s .active; free = refl }
 
-  rebuilt-still : (w : Full) → Still u w → Still u (rebuilt g m w)
+  rebuilt-still : (w : Full) → Still u (g .n) w → Still u (g .n) (rebuilt g m w)
   unfolding rebuilt
-  rebuilt-still w s = record { order = s .order; free = s .free }
+  rebuilt-still w s = record { order = s .order; active = s .active; free = s .free }
 
-  worked-still : (w : Full) (c : Choice) → Still u w → Still u (workedBy g m b w c)
+  worked-still : (w : Full) (c : Choice) → Still u (g .n) w → Still u (g .n) (workedBy g m b w c)
   unfolding workedBy
   worked-still w (Pair i j) s = stepped-still w i j s
   worked-still w Optimal s = looked-still (rebuilt g m w) (chosen g m (rebuilt g m w)) (rebuilt-still w s)
 
-  onward-still : (x : Bool) (w : Full) → Still u w → Still u (onward g m b x w)
+  onward-still : (x : Bool) (w : Full) → Still u (g .n) w → Still u (g .n) (onward g m b x w)
   unfolding onward
   onward-still true w s = worked-still w (chosen g m w) s
   onward-still false w s = s
 
-  next-still : (x : Bool) (w : Full) → Still u w → Still u (next g m b x w)
+  next-still : (x : Bool) (w : Full) → Still u (g .n) w → Still u (g .n) (next g m b x w)
   unfolding next passed
   next-still true w s = onward-still (goes (countedDown g m w .run .status)) (countedDown g m w) (counted-still w s)
   next-still false w s = s
 
-  runs-still : (w : Full) (t : ℕ) → Still u w → Still u (runs g m b w t)
+  runs-still : (w : Full) (t : ℕ) → Still u (g .n) w → Still u (g .n) (runs g m b w t)
   unfolding runs
   runs-still w zero s = s
   runs-still w (suc t) s = next-still (goes (runs g m b w t .run .status)) (runs g m b w t) (runs-still w t s)
 
-  closed-still : (budget : ℕ) (w : Full) → Still u w → Still u (closed g m budget w)
+  closed-still : (budget : ℕ) (w : Full) → Still u (g .n) w → Still u (g .n) (closed g m budget w)
   unfolding closed
   closed-still budget w s = go (eqb (w .run .iterations) budget && ltb (w .run .active) (g .n))
     where
-      go : (x : Bool) → Still u (cond x (withRun (rebuilt g m w) (activeAt (w .run) (g .n))) w)
-      go true = let r = rebuilt-still w s in record { order = r .order; free = s .free }
+      go : (x : Bool) → Still u (g .n) (cond x (withRun (rebuilt g m w) (activeAt (w .run) (g .n))) w)
+      go true = let r = rebuilt-still w s in record { order = r .order; active = refl; free = s .free }
       go false = s
 
-  pub trained-still : (budget : ℕ) (s : State) → s .numbers ≡ u → Still u (trained g m b budget s)
+  pub trained-still : (budget : ℕ) (s : State) → s .numbers ≡ u → Still u (g .n) (trained g m b budget s)
   unfolding trained stuck
-  trained-still budget s e = closed-still budget _ (runs-still _ budget (record { order = e; free = refl }))
+  trained-still budget s e = closed-still budget _ (runs-still _ budget (record { order = e; active = refl; free = refl }))

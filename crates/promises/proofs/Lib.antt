@@ -9,3 +9,4 @@ pub mod Alike
 pub mod Retired
 pub mod RetiredBox
 pub mod RetiredEntry
+pub mod Threshold

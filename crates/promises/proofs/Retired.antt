@@ -59,7 +59,7 @@ module _ {n : ℕ} {r : List ℕ} {nurule : Bool} {eps : Float} {shrinking : Boo
   abbrev weights : ℕ → Float
   weights = weightIn n (w .state .floats)
 
-  taken-ready : Ready (problemOf (k .given) m) start
+  pub taken-ready : Ready (problemOf (k .given) m) start
   taken-ready =
       ready-loaded n TwoClass m (x .labels) (x .ceilings) (kept r (x .weights) n) (kept r (x .terms) n) (scratchOf d) (taken-usable v .matrix) (v .room .floats) (v .room .numbers) (v .room .bytes)
 

@@ -12,3 +12,4 @@ pub mod Off
 pub mod Rest
 pub mod Sample
 pub mod Passed
+pub mod Rule

@@ -20,7 +20,7 @@ use Rattle.travel.specs.Home.{lastLeft}
 use Rattle.travel.specs.Travel.{Fresh, Travelled}
 use Rattle.travel.proofs.Home.{Told, last-more, told-step, start-told}
 use Rattle.travel.proofs.Travel.{Settled, settled-stays, started-stays, updated-stays, fresh-travelled}
-use Rattle.update.specs.Update.{updated}
+use Rattle.update.specs.Update.{updated, updatedState}
 use Rattle.standing.specs.Run.{chosenOver, passedOn, nextOver, runsOver, addedOver, tracedOver}
 use Rattle.standing.proofs.Off.{alike-self}
 use Rattle.standing.proofs.Runs.{chosen-stands}
@@ -123,34 +123,27 @@ module _ (stands : ℕ → Bool) (g : Given) (m : List ℕ) (b : List Float) whe
       → Told p (λ q. lastLeft (tracedOver stands g m b (startOf g m b s) t) q (weightIn (g .n) (s .floats) q)) (runsOver stands g m b (startOf g m b s) t .state)
   told-over s r h t = runs-tell (weightIn (g .n) (s .floats)) (startOf g m b s) t (record { kept = start-told g m b s r h; active = refl }) .kept
 
-  -- ---- kernel index, label and linear term
+  -- ---- what each update keeps
 
-  module _ (labels : ℕ → ℕ) (terms : ℕ → Float) where
-    abbrev S : State → Type 0
-    S = Settled p labels terms
-
-    pass-settles : (w : Full) (c : Choice) → chosenOver stands g m (w .state) ≡ c → All S w → All S (passedOn stands g m b w c)
+  module _ (K : State → Type 0) (on-pair : (s : State) (i j : ℕ) → i < g .n → j < g .n → K s → K (updatedState p b (g .floor) s i j (g .n))) where
+    pass-keeps : (w : Full) (c : Choice) → chosenOver stands g m (w .state) ≡ c → All K w → All K (passedOn stands g m b w c)
     unfolding passedOn stepped
-    pass-settles w (Pair i j) e k =
+    pass-keeps w (Pair i j) e k =
         let h = pair-stands w i j e in
-        let a = k .active in
-        let n = w .run .active in
-        record {
-          kept = settled-stays p labels terms (w .state) (updated p b (g .floor) (w .state) i j n)
-              (updated-stays p (w .state) b (g .floor) i j n (omega (arith, h .0 .0)) (omega (arith, h .1 .0)) (omega arith) (k .kept .ready)) (k .kept);
-          active = k .active;
-        }
-    pass-settles w Optimal e k = record { kept = k .kept; active = k .active }
+        record { kept = rw (k .active) (on-pair (w .state) i j (h .0 .0) (h .1 .0) (k .kept)); active = k .active }
+    pass-keeps w Optimal e k = record { kept = k .kept; active = k .active }
 
-    next-settles : (on : Bool) (w : Full) → All S w → All S (nextOver stands g m b on w)
+    next-keeps : (on : Bool) (w : Full) → All K w → All K (nextOver stands g m b on w)
     unfolding nextOver
-    next-settles true w k = pass-settles w (chosenOver stands g m (w .state)) refl k
-    next-settles false w k = k
+    next-keeps true w k = pass-keeps w (chosenOver stands g m (w .state)) refl k
+    next-keeps false w k = k
 
-    runs-settle : (w : Full) (t : ℕ) → All S w → All S (runsOver stands g m b w t)
+    pub runs-keep : (w : Full) (t : ℕ) → All K w → All K (runsOver stands g m b w t)
     unfolding runsOver
-    runs-settle w zero k = k
-    runs-settle w (suc t) k = next-settles (goes (runsOver stands g m b w t .run .status)) (runsOver stands g m b w t) (runs-settle w t k)
+    runs-keep w zero k = k
+    runs-keep w (suc t) k = next-keeps (goes (runsOver stands g m b w t .run .status)) (runsOver stands g m b w t) (runs-keep w t k)
+
+  -- ---- kernel index, label and linear term
 
   -- after t passes: each sample has the kernel index, the label and the linear term that were loaded for it
   pub travelled-over : (s : State) → Ready p s → Fresh (g .n) s → (t : ℕ)
@@ -158,5 +151,7 @@ module _ (stands : ℕ → Bool) (g : Given) (m : List ℕ) (b : List Float) whe
   travelled-over s r h t =
       let x : ℕ → ℕ = λ k. getD (s .labels) k 0 in
       let y : ℕ → Float = λ k. getD (s .floats) (4 * g .n + k) nan in
-      runs-settle x y (startOf g m b s) t
+      runs-keep (Settled p x y)
+      (λ u i j hi hj k. settled-stays p x y u (updated p b (g .floor) u i j (g .n)) (updated-stays p u b (g .floor) i j (g .n) hi hj (omega arith) (k .ready)) k)
+      (startOf g m b s) t
       (record { kept = settled-stays p x y s (started p b s) (started-stays p s b) (record { ready = r; travelled = fresh-travelled p s r h }); active = refl }) .kept .travelled
