@@ -9,3 +9,5 @@ pub mod Alike
 pub mod Retired
 pub mod RetiredBox
 pub mod RetiredEntry
+pub mod Beyond
+pub mod Leaves

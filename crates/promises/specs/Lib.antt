@@ -1,2 +1,3 @@
 pub mod Fit
 pub mod Retired
+pub mod Leaves
