@@ -19,6 +19,7 @@ use Rattle.answer.specs.declared.Outcome.the-variants.{Accepted, Refused}
 use Rattle.boxed.specs.Range.{In}
 use Rattle.classification.specs.Entries.{fitted, decided, entered, generalSized, fitCSized, fitCOf, fitNuSized, fitNuOf, fitOneClassSized, fitOneClassOf}
 use Rattle.classification.proofs.Laws.{Usable, usable-general, usable-c, usable-nu, usable-one-class}
+use Rattle.extreme.specs.declared.Choice.the-variants.{Pair}
 use Rattle.hosted.specs.Hosted.{decodedTo, floatsOf, storedTo, room, Handed, handed, deliveredBy, delivered, turnedAway, hostedBy, freshPlaces, freshFloats, freshNumbers, freshBytes}
 use Rattle.hosted.proofs.Serves.{Serves, inputs-right, serves}
 use Rattle.judge.specs.Judge.{generalJudged, cJudged, nuJudged, oneClassJudged}
@@ -26,15 +27,17 @@ use Rattle.judge.specs.Sizes.{sizes, Room}
 use Rattle.judge.specs.declared.Judged.{Judged}
 use Rattle.judge.specs.declared.Judged.the-variants.{Fine}
 use Rattle.lists.proofs.Prefix.{prefix-at}
-use Rattle.promises.specs.Fit.{Fit, generalFit, cFit, nuFit, oneClassFit, weightAfter, stepsTaken}
+use Rattle.promises.specs.Fit.{Fit, generalFit, cFit, nuFit, oneClassFit, after, weightAfter, pairAfter, deltaAfter, stepsTaken}
 use Rattle.classification.proofs.Accepts.{decided-in}
 use Rattle.promises.proofs.Alike.{served-alike}
-use Rattle.promises.proofs.Box.{Common, served-box, served-home-box}
+use Rattle.promises.proofs.Box.{Common, served-box, served-no-nan, served-home-box}
 use Rattle.promises.proofs.Boxes.{general-common}
 use Rattle.promises.proofs.Home.{served-home}
 use Rattle.promises.proofs.Numbers.{general-sized-number, c-sized-number, nu-sized-number, one-class-sized-number}
-use Rattle.promises.proofs.Travel.{Served}
+use Rattle.promises.proofs.Travel.{Served, served-travels}
+use Rattle.rounding.specs.Units.{Real}
 use Rattle.travel.specs.Home.{lastLeft}
+use Rattle.travel.specs.Travel.{Travelled}
 use Rattle.wire.specs.Wire.{digits, floatAt}
 use Rattle.handed.specs.Gives.{Gives}
 use Rattle.handed.proofs.Stored.{stored-at}
@@ -152,6 +155,14 @@ module _ (n : ℕ) (m l c a p : List ℕ) (nurule eps shrinking budget : ℕ) (c
   pub general-gives : Gives generalK m budget (generalHost n m l c a p nurule eps shrinking budget cr h an)
   general-gives = gives (general-ran .2)
 
+  -- the training was accepted, and it is the fit's over the call's own room: so all that is promised of a fit holds. Not of the entry `generalOf`,
+  -- which asks for lists of n places: what is read from the bytes has 512
+  pub general-called : (x : Answer) × (generalW .out ≡ Accepted x) × Served generalK m budget room generalW
+  general-called = let r = general-ran .2 in (r .out .answer, r .out .accepted, r .served)
+
+  pub general-called-travels : (t : ℕ) → Travelled n (λ s. getD l s 0) (λ s. getD (floatsOf p n) s nan) (after generalK m room t .state)
+  general-called-travels = served-travels (general-ran .2 .served)
+
   -- the box, where every lent ceiling is b
   module _ (b : Float) (fit : T (fits binary64 b)) (same : (i : ℕ) → i < n → getD (floatsOf c n) i nan ≡ b) where
     one-b : Common generalK m b
@@ -162,6 +173,9 @@ module _ (n : ℕ) (m l c a p : List ℕ) (nurule eps shrinking budget : ℕ) (c
 
     pub general-called-box : (t i : ℕ) → i < n → In b (weightAfter generalK m room t i)
     general-called-box = served-box (general-ran .2 .served) one-b
+
+    pub general-called-no-nan : (t i j : ℕ) → pairAfter generalK m room t ≡ Pair i j → Real (deltaAfter generalK m room t i j)
+    general-called-no-nan = served-no-nan (general-ran .2 .served) one-b
 
     pub general-called-home-box : (s : ℕ) → s < n → In b (lastLeft (stepsTaken generalK m room budget) s (getD (floatsOf a n) s nan))
     general-called-home-box = served-home-box (general-ran .2 .served) one-b
