@@ -11,18 +11,19 @@ use Rattle.boxed.specs.Range.{In}
 use Rattle.extreme.specs.declared.Choice.the-variants.{Pair}
 use Rattle.fits.specs.Starts.{nothing, evenly, allPositive, half, sharedTo, oneClassTo}
 use Rattle.hosted.specs.Hosted.{room}
-use Rattle.promises.specs.Fit.{Fit, cFit, nuFit, oneClassFit, after, weightAfter, pairAfter, deltaAfter, stepsTaken}
+use Rattle.promises.specs.Fit.{Fit, after, weightAfter, pairAfter, deltaAfter, stepsTaken}
 use Rattle.promises.proofs.Boxes.{c-box, c-no-nan, c-home-box, nu-box, nu-no-nan, nu-home-box, one-class-box, one-class-no-nan, one-class-home-box}
 use Rattle.promises.proofs.Entries.{c-travels, nu-travels, one-class-travels}
 use Rattle.rounding.specs.Units.{Real}
 use Rattle.travel.specs.Home.{lastLeft}
 use Rattle.travel.specs.Travel.{Travelled}
+use Rattle.handed.specs.Trains.{cTrains, nuTrains, oneClassTrains}
 use Rattle.handed.proofs.Handed.{c-called, nu-called, one-class-called}
 
 -- ---- C
 
 module _ (n : ℕ) (m l : List ℕ) (cpos cneg eps shrinking budget : ℕ) (cr h an : List ℕ) (z : cHost n m l cpos cneg eps shrinking budget cr h an .code ≡ 0) where
-  pub c-called-travels : (t : ℕ) → Travelled n (λ s. getD l s 0) (λ s. getD (evenly minusOne n) s nan) (after (cFit n l (asFloat cpos) (asFloat cneg) (asFloat eps) (isOn shrinking)) m room t .state)
+  pub c-called-travels : (t : ℕ) → Travelled n (λ s. getD l s 0) (λ s. getD (evenly minusOne n) s nan) (after (cTrains n l cpos cneg eps shrinking) m room t .state)
   c-called-travels =
       let x = c-called n m l cpos cneg eps shrinking budget cr h an z in
       c-travels n m l (asFloat cpos) (asFloat cneg) (asFloat eps) (isOn shrinking) budget room (x .0) (x .1)
@@ -30,7 +31,7 @@ module _ (n : ℕ) (m l : List ℕ) (cpos cneg eps shrinking budget : ℕ) (cr h
 -- the box, where both costs are the same
 module _ (n : ℕ) (m l : List ℕ) (cost eps shrinking budget : ℕ) (cr h an : List ℕ) (z : cHost n m l cost cost eps shrinking budget cr h an .code ≡ 0) where
   abbrev cK : Fit
-  cK = cFit n l (asFloat cost) (asFloat cost) (asFloat eps) (isOn shrinking)
+  cK = cTrains n l cost cost eps shrinking
 
   pub c-called-box : (t i : ℕ) → i < n → In (asFloat cost) (weightAfter cK m room t i)
   c-called-box =
@@ -51,7 +52,7 @@ module _ (n : ℕ) (m l : List ℕ) (cost eps shrinking budget : ℕ) (cr h an :
 
 module _ (n : ℕ) (m l : List ℕ) (nu eps shrinking budget : ℕ) (cr h an : List ℕ) (z : nuHost n m l nu eps shrinking budget cr h an .code ≡ 0) where
   abbrev nuK : Fit
-  nuK = nuFit n l (asFloat nu) (asFloat eps) (isOn shrinking)
+  nuK = nuTrains n l nu eps shrinking
 
   pub nu-called-travels : (t : ℕ) → Travelled n (λ s. getD l s 0) (λ s. getD nothing s nan) (after nuK m room t .state)
   nu-called-travels =
@@ -77,7 +78,7 @@ module _ (n : ℕ) (m l : List ℕ) (nu eps shrinking budget : ℕ) (cr h an : L
 
 module _ (n : ℕ) (m : List ℕ) (nu eps shrinking budget : ℕ) (cr h an : List ℕ) (z : oneClassHost n m nu eps shrinking budget cr h an .code ≡ 0) where
   abbrev oneClassK : Fit
-  oneClassK = oneClassFit n (asFloat nu) (asFloat eps) (isOn shrinking)
+  oneClassK = oneClassTrains n nu eps shrinking
 
   pub one-class-called-travels : (t : ℕ) → Travelled n (λ s. getD (allPositive n) s 0) (λ s. getD nothing s nan) (after oneClassK m room t .state)
   one-class-called-travels =

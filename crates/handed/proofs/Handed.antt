@@ -27,7 +27,7 @@ use Rattle.judge.specs.Sizes.{sizes, Room}
 use Rattle.judge.specs.declared.Judged.{Judged}
 use Rattle.judge.specs.declared.Judged.the-variants.{Fine}
 use Rattle.lists.proofs.Prefix.{prefix-at}
-use Rattle.promises.specs.Fit.{Fit, generalFit, cFit, nuFit, oneClassFit, after, weightAfter, pairAfter, deltaAfter, stepsTaken}
+use Rattle.promises.specs.Fit.{Fit, after, weightAfter, pairAfter, deltaAfter, stepsTaken}
 use Rattle.classification.proofs.Accepts.{decided-in}
 use Rattle.promises.proofs.Alike.{served-alike}
 use Rattle.promises.proofs.Box.{Common, served-box, served-no-nan, served-home-box}
@@ -40,6 +40,7 @@ use Rattle.travel.specs.Home.{lastLeft}
 use Rattle.travel.specs.Travel.{Travelled}
 use Rattle.wire.specs.Wire.{digits, floatAt}
 use Rattle.handed.specs.Gives.{Gives}
+use Rattle.handed.specs.Trains.{generalTrains, cTrains, nuTrains, oneClassTrains}
 use Rattle.handed.proofs.Stored.{stored-at}
 
 -- ---- 0 says: not turned away
@@ -138,7 +139,7 @@ floats-at b n i few h = prefix-at nan (decodedTo b freshPlaces) (λ k. floatAt b
 
 module _ (n : ℕ) (m l c a p : List ℕ) (nurule eps shrinking budget : ℕ) (cr h an : List ℕ) (z : generalHost n m l c a p nurule eps shrinking budget cr h an .code ≡ 0) where
   abbrev generalK : Fit
-  generalK = generalFit n l (floatsOf c n) (floatsOf a n) (floatsOf p n) (isOn nurule) (asFloat eps) (isOn shrinking)
+  generalK = generalTrains n l c a p nurule eps shrinking
 
   abbrev generalW : Whole
   generalW = generalSized n m l (floatsOf c n) (floatsOf a n) (floatsOf p n) (isOn nurule) (asFloat eps) (isOn shrinking) budget room
@@ -182,7 +183,7 @@ module _ (n : ℕ) (m l c a p : List ℕ) (nurule eps shrinking budget : ℕ) (c
 
 module _ (n : ℕ) (m l : List ℕ) (cpos cneg eps shrinking budget : ℕ) (cr h an : List ℕ) (z : cHost n m l cpos cneg eps shrinking budget cr h an .code ≡ 0) where
   abbrev cK : Fit
-  cK = cFit n l (asFloat cpos) (asFloat cneg) (asFloat eps) (isOn shrinking)
+  cK = cTrains n l cpos cneg eps shrinking
 
   abbrev cW : Whole
   cW = fitCSized n m l (asFloat cpos) (asFloat cneg) (asFloat eps) (isOn shrinking) budget room
@@ -209,7 +210,7 @@ module _ (n : ℕ) (m l : List ℕ) (cpos cneg eps shrinking budget : ℕ) (cr h
 
 module _ (n : ℕ) (m l : List ℕ) (nu eps shrinking budget : ℕ) (cr h an : List ℕ) (z : nuHost n m l nu eps shrinking budget cr h an .code ≡ 0) where
   abbrev nuK : Fit
-  nuK = nuFit n l (asFloat nu) (asFloat eps) (isOn shrinking)
+  nuK = nuTrains n l nu eps shrinking
 
   abbrev nuW : Whole
   nuW = fitNuSized n m l (asFloat nu) (asFloat eps) (isOn shrinking) budget room
@@ -236,7 +237,7 @@ module _ (n : ℕ) (m l : List ℕ) (nu eps shrinking budget : ℕ) (cr h an : L
 
 module _ (n : ℕ) (m : List ℕ) (nu eps shrinking budget : ℕ) (cr h an : List ℕ) (z : oneClassHost n m nu eps shrinking budget cr h an .code ≡ 0) where
   abbrev oneClassK : Fit
-  oneClassK = oneClassFit n (asFloat nu) (asFloat eps) (isOn shrinking)
+  oneClassK = oneClassTrains n nu eps shrinking
 
   abbrev oneClassW : Whole
   oneClassW = fitOneClassSized n m (asFloat nu) (asFloat eps) (isOn shrinking) budget room

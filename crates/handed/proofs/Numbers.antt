@@ -13,6 +13,7 @@ use Rattle.answer.specs.declared.Outcome.the-variants.{Accepted, Refused}
 use Rattle.hosted.specs.Hosted.{floatsOf, hostSizes, room, deliveredBy, delivered, hostedBy}
 use Rattle.judge.specs.Sizes.{countGood, roomGood, sizes}
 use Rattle.promises.proofs.Numbers.{general-sized-number, c-sized-number, nu-sized-number, one-class-sized-number}
+use Rattle.handed.specs.Trains.{largest}
 
 -- what holds of 0, 1 and 2, and of every number that the training is refused with, holds of the result
 module _ (P : ℕ → Type 0) (none : P 0) (one : P 1) (two : P 2) (n : ℕ) (w : Whole) (cr h an : List ℕ) (told : (q i : ℕ) → w .out ≡ Refused q i → P q) where
@@ -35,35 +36,35 @@ module _ (P : ℕ → Type 0) (none : P 0) (one : P 1) (two : P 2) (n : ℕ) (w 
 
 -- ---- the four functions
 
-module _ (shrinking n : ℕ) (w : Whole) (cr h an : List ℕ) (told : (q i : ℕ) → w .out ≡ Refused q i → (1 ≤ q) × (q ≤ cond (isOn shrinking) 11 10)) where
-  small : (q : ℕ) → q ≤ 2 → q ≤ cond (isOn shrinking) 11 10
+module _ (shrinking n : ℕ) (w : Whole) (cr h an : List ℕ) (told : (q i : ℕ) → w .out ≡ Refused q i → (1 ≤ q) × (q ≤ largest shrinking)) where
+  small : (q : ℕ) → q ≤ 2 → q ≤ largest shrinking
   small q l = go (isOn shrinking)
     where
       go : (b : Bool) → q ≤ cond b 11 10
       go true = omega arith
       go false = omega arith
 
-  numbered : (inputs : Bool) (m : List ℕ) → hostedBy (byteSizes n inputs m cr h an) (delivered n w cr h an) cr h an .code ≤ cond (isOn shrinking) 11 10
-  numbered = hosted-code (λ q. q ≤ cond (isOn shrinking) 11 10) (small 0 (omega arith)) (small 1 (omega arith)) (small 2 (omega arith)) n w cr h an (λ q i e. told q i e .1)
+  numbered : (inputs : Bool) (m : List ℕ) → hostedBy (byteSizes n inputs m cr h an) (delivered n w cr h an) cr h an .code ≤ largest shrinking
+  numbered = hosted-code (λ q. q ≤ largest shrinking) (small 0 (omega arith)) (small 1 (omega arith)) (small 2 (omega arith)) n w cr h an (λ q i e. told q i e .1)
 
 pub general-called-number : (n : ℕ) (m l c a p : List ℕ) (nurule eps shrinking budget : ℕ) (cr h an : List ℕ)
-    → generalHost n m l c a p nurule eps shrinking budget cr h an .code ≤ cond (isOn shrinking) 11 10
+    → generalHost n m l c a p nurule eps shrinking budget cr h an .code ≤ largest shrinking
 unfolding generalHost
 general-called-number n m l c a p nurule eps shrinking budget cr h an =
     numbered shrinking n _ cr h an (general-sized-number n m l (floatsOf c n) (floatsOf a n) (floatsOf p n) (isOn nurule) (asFloat eps) (isOn shrinking) budget room) (generalInputs n l c a p) m
 
 pub c-called-number : (n : ℕ) (m l : List ℕ) (cpos cneg eps shrinking budget : ℕ) (cr h an : List ℕ)
-    → cHost n m l cpos cneg eps shrinking budget cr h an .code ≤ cond (isOn shrinking) 11 10
+    → cHost n m l cpos cneg eps shrinking budget cr h an .code ≤ largest shrinking
 unfolding cHost
 c-called-number n m l cpos cneg eps shrinking budget cr h an =
     numbered shrinking n _ cr h an (c-sized-number n m l (asFloat cpos) (asFloat cneg) (asFloat eps) (isOn shrinking) budget room) (eqb (length l) n) m
 
-pub nu-called-number : (n : ℕ) (m l : List ℕ) (nu eps shrinking budget : ℕ) (cr h an : List ℕ) → nuHost n m l nu eps shrinking budget cr h an .code ≤ cond (isOn shrinking) 11 10
+pub nu-called-number : (n : ℕ) (m l : List ℕ) (nu eps shrinking budget : ℕ) (cr h an : List ℕ) → nuHost n m l nu eps shrinking budget cr h an .code ≤ largest shrinking
 unfolding nuHost
 nu-called-number n m l nu eps shrinking budget cr h an =
     numbered shrinking n _ cr h an (nu-sized-number n m l (asFloat nu) (asFloat eps) (isOn shrinking) budget room) (eqb (length l) n) m
 
-pub one-class-called-number : (n : ℕ) (m : List ℕ) (nu eps shrinking budget : ℕ) (cr h an : List ℕ) → oneClassHost n m nu eps shrinking budget cr h an .code ≤ cond (isOn shrinking) 11 10
+pub one-class-called-number : (n : ℕ) (m : List ℕ) (nu eps shrinking budget : ℕ) (cr h an : List ℕ) → oneClassHost n m nu eps shrinking budget cr h an .code ≤ largest shrinking
 unfolding oneClassHost
 one-class-called-number n m nu eps shrinking budget cr h an =
     numbered shrinking n _ cr h an (one-class-sized-number n m (asFloat nu) (asFloat eps) (isOn shrinking) budget room) true m
