@@ -1,5 +1,5 @@
 -- What a C function leaves in the lists that it is lent, whatever it is given and whatever it answers. Assumes nothing.
-use Prim.Native.Nat.{ℕ, _*_, _≤_}
+use Prim.Native.Nat.{ℕ, _≤_}
 use mathlib.Core.Bool.{Bool, true, false, _&&_, cond, true≢false}
 use mathlib.Core.List.{List}
 use mathlib.Core.Path.{_≡_, refl, sym, _∙_}
@@ -18,6 +18,7 @@ use Rattle.hosted.proofs.Serves.{serves}
 use Rattle.promises.proofs.Beyond.{beyond-refl}
 use Rattle.wire.specs.Wire.{digits}
 use Rattle.handed.specs.Leaves.{Leaves}
+use Rattle.handed.specs.Trains.{largest}
 use Rattle.handed.proofs.Numbers.{general-called-number, c-called-number, nu-called-number, one-class-called-number}
 use Rattle.handed.proofs.Retired.{retired-called-number}
 use Rattle.handed.proofs.Stored.{stored-beyond, word-at, words-beyond}
@@ -32,8 +33,8 @@ module _ (n : ℕ) (cr h an : List ℕ) where
   unfolding wordsOf
   refused-leaves q i few long = record {
     results = λ z. (refl, refl);
-    crate = beyond-refl 0 (8 * n) cr;
-    home = beyond-refl 0 (8 * n) h;
+    crate = beyond-refl _ _ _;
+    home = beyond-refl _ _ _;
     answer = words-beyond (wordsOf (Refused q i)) an 9;
     short = λ s. absurd (omega arith);
     told = first-word (Refused q i) an q refl few;
@@ -63,9 +64,9 @@ module _ (n : ℕ) (cr h an : List ℕ) where
       go true e = refused-leaves q 0 few (leb-true 72 (length an) e)
       go false e = record {
         results = λ z. (refl, refl);
-        crate = beyond-refl 0 (8 * n) cr;
-        home = beyond-refl 0 (8 * n) h;
-        answer = beyond-refl 0 72 an;
+        crate = beyond-refl _ _ _;
+        home = beyond-refl _ _ _;
+        answer = beyond-refl _ _ _;
         short = λ s. refl;
         told = λ l. absurd (true≢false (sym (le-leb 72 (length an) l) ∙ e));
       }
@@ -83,9 +84,12 @@ module _ (n : ℕ) (cr h an : List ℕ) where
 
 -- ---- the five functions
 
-few : (b : Bool) {q : ℕ} → q ≤ cond b 11 10 → q ≤ 13
-few true l = omega arith
-few false l = omega arith
+few : (shrinking : ℕ) {q : ℕ} → q ≤ largest shrinking → q ≤ 13
+few shrinking {q} l = go (isOn shrinking) refl
+  where
+    go : (b : Bool) → isOn shrinking ≡ b → q ≤ 13
+    go true e = let h : q ≤ 11 = rw e at l in omega arith
+    go false e = let h : q ≤ 10 = rw e at l in omega arith
 
 -- right sizes have an answer of 72 bytes
 answer-long : (n : ℕ) (inputs : Bool) (m cr h an : List ℕ) → byteSizes n inputs m cr h an ≡ 0 → 72 ≤ length an
@@ -95,22 +99,22 @@ pub general-called-leaves : (n : ℕ) (m l c a p : List ℕ) (nurule eps shrinki
     → Leaves n cr h an (generalHost n m l c a p nurule eps shrinking budget cr h an)
 unfolding generalHost
 general-called-leaves n m l c a p nurule eps shrinking budget cr h an =
-    hosted-leaves n cr h an _ _ (answer-long n (generalInputs n l c a p) m cr h an) (few (isOn shrinking) (general-called-number n m l c a p nurule eps shrinking budget cr h an))
+    hosted-leaves n cr h an _ _ (answer-long n (generalInputs n l c a p) m cr h an) (few shrinking (general-called-number n m l c a p nurule eps shrinking budget cr h an))
 
 pub c-called-leaves : (n : ℕ) (m l : List ℕ) (cpos cneg eps shrinking budget : ℕ) (cr h an : List ℕ) → Leaves n cr h an (cHost n m l cpos cneg eps shrinking budget cr h an)
 unfolding cHost
 c-called-leaves n m l cpos cneg eps shrinking budget cr h an =
-    hosted-leaves n cr h an _ _ (answer-long n (eqb (length l) n) m cr h an) (few (isOn shrinking) (c-called-number n m l cpos cneg eps shrinking budget cr h an))
+    hosted-leaves n cr h an _ _ (answer-long n (eqb (length l) n) m cr h an) (few shrinking (c-called-number n m l cpos cneg eps shrinking budget cr h an))
 
 pub nu-called-leaves : (n : ℕ) (m l : List ℕ) (nu eps shrinking budget : ℕ) (cr h an : List ℕ) → Leaves n cr h an (nuHost n m l nu eps shrinking budget cr h an)
 unfolding nuHost
 nu-called-leaves n m l nu eps shrinking budget cr h an =
-    hosted-leaves n cr h an _ _ (answer-long n (eqb (length l) n) m cr h an) (few (isOn shrinking) (nu-called-number n m l nu eps shrinking budget cr h an))
+    hosted-leaves n cr h an _ _ (answer-long n (eqb (length l) n) m cr h an) (few shrinking (nu-called-number n m l nu eps shrinking budget cr h an))
 
 pub one-class-called-leaves : (n : ℕ) (m : List ℕ) (nu eps shrinking budget : ℕ) (cr h an : List ℕ) → Leaves n cr h an (oneClassHost n m nu eps shrinking budget cr h an)
 unfolding oneClassHost
 one-class-called-leaves n m nu eps shrinking budget cr h an =
-    hosted-leaves n cr h an _ _ (answer-long n true m cr h an) (few (isOn shrinking) (one-class-called-number n m nu eps shrinking budget cr h an))
+    hosted-leaves n cr h an _ _ (answer-long n true m cr h an) (few shrinking (one-class-called-number n m nu eps shrinking budget cr h an))
 
 pub retired-called-leaves : (n : ℕ) (m l c a p r : List ℕ) (nurule eps shrinking budget : ℕ) (t cr h an : List ℕ)
     → Leaves n cr h an (retiredHost n m l c a p r nurule eps shrinking budget t cr h an)

@@ -38,11 +38,11 @@ module _ (P : ℕ → Type 0) (none : P 0) (one : P 1) (two : P 2) (n : ℕ) (w 
 
 module _ (shrinking n : ℕ) (w : Whole) (cr h an : List ℕ) (told : (q i : ℕ) → w .out ≡ Refused q i → (1 ≤ q) × (q ≤ largest shrinking)) where
   small : (q : ℕ) → q ≤ 2 → q ≤ largest shrinking
-  small q l = go (isOn shrinking)
+  small q l = go (isOn shrinking) refl
     where
-      go : (b : Bool) → q ≤ cond b 11 10
-      go true = omega arith
-      go false = omega arith
+      go : (b : Bool) → isOn shrinking ≡ b → q ≤ largest shrinking
+      go true e = rw e (omega arith)
+      go false e = rw e (omega arith)
 
   numbered : (inputs : Bool) (m : List ℕ) → hostedBy (byteSizes n inputs m cr h an) (delivered n w cr h an) cr h an .code ≤ largest shrinking
   numbered = hosted-code (λ q. q ≤ largest shrinking) (small 0 (omega arith)) (small 1 (omega arith)) (small 2 (omega arith)) n w cr h an (λ q i e. told q i e .1)

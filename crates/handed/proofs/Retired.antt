@@ -4,11 +4,12 @@ use Prim.Native.Nat.{ℕ, _*_, _%_, _^_, _≤_, _<_}
 use mathlib.Core.Bool.{Bool, true, false, _&&_, cond}
 use mathlib.Core.List.{List}
 use mathlib.Core.Path.{_≡_, refl, sym, ap, _∙_}
+use native.Mathlib.Nat.{mod-eq-of-lt}
 use native.Mathlib.Omega.{arith}
 use borrow.Author.Tests.{eqb-true, eq-eqb}
 use lib.Dec.{T, eqb}
 use lib.Ieee.{Float, nan, binary64, toBits, ofBits, fits}
-use lib.Ieee.Bits.{ofBits-fits}
+use lib.Ieee.Bits.{toBits-lt}
 use lib.ListN.{length, getD}
 use Rattle.alpha.specs.Weight as Weight
 use Rattle.altuliscia.specs.Functions.{isOn, asFloat, byteSizes, generalInputs, tuningKnown, generalHost, retiredHost}
@@ -21,6 +22,7 @@ use Rattle.hosted.specs.Hosted.{floatsOf, room, Handed, handed, delivered, turn
 use Rattle.hosted.proofs.Serves.{Serves, inputs-right, serves}
 use Rattle.promises.specs.Fit.{Fit, weightAfter}
 use Rattle.promises.specs.Retired.{retiredFit, silentFit, afterOver, weightOver, pairOver, deltaOver, stepsOver, ownOver}
+use Rattle.promises.proofs.Doubles.{Double, taken-own-double}
 use Rattle.promises.proofs.Numbers.{retired-sized-number}
 use Rattle.promises.proofs.Retired.{taken-alike, taken-home, taken-reads, taken-travels, taken-pairs, taken-iterations, taken-coded}
 use Rattle.promises.proofs.RetiredBox.{taken-box, taken-no-nan, taken-home-box}
@@ -33,7 +35,7 @@ use Rattle.rounding.proofs.Order.{both}
 use Rattle.travel.specs.Travel.{Travelled}
 use Rattle.wire.specs.Wire.{digits}
 use Rattle.handed.specs.Gives.{decoded, GivesOver}
-use Rattle.handed.proofs.Handed.{turned-not, Out, delivered-out, room-fits, floats-at}
+use Rattle.handed.proofs.Handed.{turned-not, Out, delivered-out, room-fits, decoded-double}
 use Rattle.handed.proofs.Numbers.{hosted-code}
 use Rattle.handed.proofs.Stored.{stored-at}
 
@@ -81,13 +83,16 @@ module _ (n : ℕ) (m l c a p r : List ℕ) (nurule eps shrinking budget : ℕ) 
   home-at : (s : ℕ) → s < n → digits (o .home) (8 * s) 8 ≡ toBits binary64 (getD (w .left .home) s nan) % 256 ^ 8
   home-at s g = ap (λ (b : List ℕ). digits b (8 * s) 8) (out .home) ∙ stored-at (w .left .home) h n s (served .home) g
 
+  own-double : (s : ℕ) → s < n → Double (ownOver (standsIn r) k m room budget s)
+  own-double = taken-own-double called-taken (λ i g. decoded-double c n i (served .room .most) g) (λ i g. decoded-double a n i (served .room .most) g)
+
   no-bits : toBits binary64 Weight.zero % 256 ^ 8 ≡ 0
   unfolding toBits ofBits
   no-bits = refl
 
   pub retired-gives : GivesOver r k m budget o
   retired-gives = record {
-    home = λ s g. home-at s g ∙ ap (λ (y : Float). toBits binary64 y % 256 ^ 8) (taken-home called-taken s g);
+    home = λ s g. home-at s g ∙ ap (λ (y : Float). toBits binary64 y % 256 ^ 8) (taken-home called-taken s g) ∙ mod-eq-of-lt (toBits-lt binary64 _ (own-double s g));
     reads = λ s g q. home-at s g ∙ ap (λ (y : Float). toBits binary64 y % 256 ^ 8) (taken-reads called-taken s g q) ∙ no-bits;
     alike = λ s g.
         ap (λ (b : List ℕ). digits b (8 * s) 8) (out .crate)
@@ -113,7 +118,7 @@ module _ (n : ℕ) (m l c a p r : List ℕ) (nurule eps shrinking budget : ℕ) 
   -- the box, where every ceiling that is lent for one that stands is b
   module _ (b : Float) (fit : T (fits binary64 b)) (same : (i : ℕ) → i < n → standsIn r i ≡ true → getD (floatsOf c n) i nan ≡ b) where
     fit-a : (i : ℕ) → i < n → standsIn r i ≡ true → T (fits binary64 (getD (floatsOf a n) i nan))
-    fit-a i g q = rw (floats-at a n i (served .room .most) g) (ofBits-fits binary64 _)
+    fit-a i g q = decoded-double a n i (served .room .most) g
 
     pub retired-called-box : (q i : ℕ) → i < n → standsIn r i ≡ true → In b (weightOver (standsIn r) k m room q i)
     retired-called-box = taken-box called-taken b fit same fit-a

@@ -51,11 +51,11 @@ away n number index d other = record {
   untouched = λ e. refl;
   results = λ q i e. (refl, refl);
   cleared = λ e. absurd (other (eqb-true number 11 e));
-  crate = beyond-refl nan n (d .crate);
-  home = beyond-refl nan n (d .home);
-  floats = beyond-refl nan (7 * n) (d .floats);
-  numbers = beyond-refl 0 (2 * n) (d .numbers);
-  bytes = beyond-refl 0 n (d .bytes);
+  crate = beyond-refl _ _ _;
+  home = beyond-refl _ _ _;
+  floats = beyond-refl _ _ _;
+  numbers = beyond-refl _ _ _;
+  bytes = beyond-refl _ _ _;
 }
 
 -- by its sizes, by what was judged, or by its run w

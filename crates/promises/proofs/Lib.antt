@@ -11,3 +11,4 @@ pub mod RetiredBox
 pub mod RetiredEntry
 pub mod Beyond
 pub mod Leaves
+pub mod Doubles
