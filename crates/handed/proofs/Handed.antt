@@ -164,7 +164,7 @@ module _ (n : ℕ) (m l c a p : List ℕ) (nurule eps shrinking budget : ℕ) (c
   pub general-gives : Gives generalK m budget (generalHost n m l c a p nurule eps shrinking budget cr h an)
   general-gives =
       let r = general-ran .2 in
-      gives r (served-own-double (r .served) (λ i g. decoded-double c n i (r .served .room .most) g) (λ i g. decoded-double a n i (r .served .room .most) g))
+      gives r (served-own-double (r .served) (λ i g. decoded-double c n i (r .served .room .most) g) (λ i g. decoded-double a n i (r .served .room .most) g) (r .out .answer) (r .out .accepted))
 
   -- the training was accepted, and it is the fit's over the call's own room: so all that is promised of a fit holds. Not of the entry `generalOf`,
   -- which asks for lists of n places: what is read from the bytes has 512
@@ -213,7 +213,8 @@ module _ (n : ℕ) (m l : List ℕ) (cpos cneg eps shrinking budget : ℕ) (cr h
       let most = r .served .room .most in
       gives r (served-own-double (r .served)
       (λ i g. rw (cost-at (asFloat cpos) (asFloat cneg) l n i most g) (cond-fits binary64 (eqb (getD l i 0) 1) _ _ (ofBits-fits binary64 cpos) (ofBits-fits binary64 cneg)))
-      (λ i g. rw (getD-replicate 512 i Weight.zero nan (omega (arith, most))) (ofBits-fits binary64 0)))
+      (λ i g. rw (getD-replicate 512 i Weight.zero nan (omega (arith, most))) (ofBits-fits binary64 0))
+      (r .out .answer) (r .out .accepted))
 
   -- the entry accepts, so all that is promised of it holds
   pub c-called : (x : Answer) × (fitCOf n m l (asFloat cpos) (asFloat cneg) (asFloat eps) (isOn shrinking) budget room .out ≡ Accepted x)

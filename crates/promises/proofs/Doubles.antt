@@ -15,8 +15,10 @@ use Rattle.alpha.specs.Weight.{weight}
 use Rattle.alpha.specs.declared.Alpha.{Alpha}
 use Rattle.answer.specs.Answer.{signedBy, coefficientOf}
 use Rattle.answer.specs.Lent.{Lent, Whole}
+use Rattle.answer.specs.declared.Answer.{Answer}
 use Rattle.answer.specs.declared.Finish.{Finish}
 use Rattle.answer.specs.declared.Finish.the-variants.{Plain, Signed, Scaled}
+use Rattle.answer.specs.declared.Outcome.the-variants.{Accepted}
 use Rattle.classification.specs.Entries.{fitted}
 use Rattle.fits.proofs.Loaded.{weight-loaded}
 use Rattle.readings.specs.Order.{weightIn}
@@ -36,15 +38,14 @@ use Rattle.state.proofs.Moves.{source, source-below, length-fields, fields-at}
 use Rattle.trace.specs.Trace.{startOf}
 use Rattle.trace.proofs.Kept.{pair-keeps, runs-keeps, trained-keeps}
 use Rattle.trace.proofs.Rests.{same-started, same-reconstructed}
-use Rattle.travel.specs.Home.{lastLeft}
-use Rattle.travel.proofs.Home.{trained-home}
 use Rattle.travel.proofs.Travel.{travelled-trained}
 use Rattle.update.specs.Pair.{pair, holding, iCapped, jCapped, iRaised, jRaised, differLow, differHigh, differed, agreeFirst, agreeSecond, agreed, stepped, pairOf}
 use Rattle.update.specs.Update.{over, pairAt, updatedState}
 use Rattle.update.specs.declared.Pair.{Pair}
 use Rattle.update.proofs.Left.{length-updated, alpha-i, alpha-j, alpha-other}
-use Rattle.promises.specs.Fit.{Fit, startFrom, stepsTaken, rOf, ownWeight, weightAfter}
+use Rattle.promises.specs.Fit.{Fit, startFrom, rOf, ownWeight, weightAfter}
 use Rattle.promises.specs.Retired.{retiredFit, silentFit, ownOver}
+use Rattle.promises.proofs.Home.{served-home, served-at}
 use Rattle.promises.proofs.Retired.{taken-left, taken-coded}
 use Rattle.promises.proofs.Travel.{Served, ready-start, fresh-start}
 
@@ -189,16 +190,12 @@ module _ {k : Fit} {m : List ℕ} {budget : ℕ} {d : Lent} {o : Whole} (v : Ser
   served-doubles = runs-doubled g m (k .ceilings) ceilings (startFrom k m d) (ready-start v .floats) start
 
   -- and what home answers for sample s
-  pub served-own-double : (s : ℕ) → s < g .n → Double (ownWeight k m d budget s)
-  served-own-double s h =
+  pub served-own-double : (x : Answer) → o .out ≡ Accepted x → (s : ℕ) → s < g .n → Double (ownWeight k m d budget s)
+  served-own-double x e s h =
       let w = trained g m (k .ceilings) budget (startFrom k m d) in
       let q = travelled-trained g m (k .ceilings) budget (startFrom k m d) (ready-start v) (fresh-start v) .order in
-      coefficient-doubled (k .how) (getD (k .labels) s 0) (rOf k m d budget) (lastLeft (stepsTaken k m d budget) s (getD (k .weights) s nan))
-      (rw (
-        sym (weight-loaded (g .n) (k .ceilings) (k .weights) (k .terms) (d .floats) (v .room .floats) (g .n) s (omega arith) h),
-        sym (trained-home g m (k .ceilings) budget (startFrom k m d) (ready-start v) (fresh-start v) (d .home) (v .room .home) s h),
-        home-at nan (w .state .numbers) (weightIn (g .n) (w .state .floats)) (d .home) (g .n) s (v .room .home) q h,
-      )
+      rw (sym (served-home v x e s h), served-at v x e s h, home-at nan (w .state .numbers) (weightIn (g .n) (w .state .floats)) (d .home) (g .n) s (v .room .home) q h)
+      (coefficient-doubled (k .how) (getD (k .labels) s 0) (rOf k m d budget) (weightIn (g .n) (w .state .floats) (q .place s))
       (trained-doubled g m (k .ceilings) ceilings (startFrom k m d) (ready-start v .floats) start budget (q .place s) (q .inside s h)))
 
 -- ---- a training with retired samples: the code's run has the same weights
