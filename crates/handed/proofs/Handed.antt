@@ -4,12 +4,14 @@ use Prim.Native.Nat.{ℕ, _*_, _%_, _^_, _≤_, _<_}
 use mathlib.Core.Bool.{Bool, true, false, cond}
 use mathlib.Core.List.{List}
 use mathlib.Core.Path.{_≡_, refl, sym, ap, _∙_}
+use native.Mathlib.Nat.{mod-eq-of-lt}
 use native.Mathlib.Omega.{arith}
 use borrow.Author.Tests.{eqb-true, eqb-false, eq-eqb, lt-ltb, le-leb}
 use lib.Dec.{T, eqb}
 use lib.Ieee.{Float, nan, binary64, toBits, fits}
-use lib.Ieee.Bits.{ofBits-fits}
-use lib.ListN.{length, getD, length-replicate}
+use lib.Ieee.Bits.{ofBits-fits, toBits-lt}
+use lib.Ieee.Fits.{cond-fits}
+use lib.ListN.{length, getD, length-replicate, getD-replicate}
 use Rattle.alpha.specs.Weight as Weight
 use Rattle.altuliscia.specs.Functions.{isOn, asFloat, byteSizes, generalInputs, generalHost, cHost, nuHost, oneClassHost}
 use Rattle.answer.specs.Lent.{Lent, Whole}
@@ -19,6 +21,7 @@ use Rattle.answer.specs.declared.Outcome.the-variants.{Accepted, Refused}
 use Rattle.boxed.specs.Range.{In}
 use Rattle.classification.specs.Entries.{fitted, decided, entered, generalSized, fitCSized, fitCOf, fitNuSized, fitNuOf, fitOneClassSized, fitOneClassOf}
 use Rattle.classification.proofs.Laws.{Usable, usable-general, usable-c, usable-nu, usable-one-class}
+use Rattle.extreme.specs.declared.Choice.the-variants.{Pair}
 use Rattle.hosted.specs.Hosted.{decodedTo, floatsOf, storedTo, room, Handed, handed, deliveredBy, delivered, turnedAway, hostedBy, freshPlaces, freshFloats, freshNumbers, freshBytes}
 use Rattle.hosted.proofs.Serves.{Serves, inputs-right, serves}
 use Rattle.judge.specs.Judge.{generalJudged, cJudged, nuJudged, oneClassJudged}
@@ -26,17 +29,21 @@ use Rattle.judge.specs.Sizes.{sizes, Room}
 use Rattle.judge.specs.declared.Judged.{Judged}
 use Rattle.judge.specs.declared.Judged.the-variants.{Fine}
 use Rattle.lists.proofs.Prefix.{prefix-at}
-use Rattle.promises.specs.Fit.{Fit, generalFit, cFit, nuFit, oneClassFit, weightAfter, stepsTaken}
+use Rattle.promises.specs.Fit.{Fit, ownWeight, rOf, after, weightAfter, pairAfter, deltaAfter, stepsTaken}
 use Rattle.classification.proofs.Accepts.{decided-in}
 use Rattle.promises.proofs.Alike.{served-alike}
-use Rattle.promises.proofs.Box.{Common, served-box, served-home-box}
-use Rattle.promises.proofs.Boxes.{general-common}
+use Rattle.promises.proofs.Box.{Common, served-box, served-no-nan, served-home-box}
+use Rattle.promises.proofs.Boxes.{general-common, cost-at, nu-home-box, one-class-home-box}
+use Rattle.promises.proofs.Doubles.{Double, coefficient-doubled, served-own-double}
 use Rattle.promises.proofs.Home.{served-home}
 use Rattle.promises.proofs.Numbers.{general-sized-number, c-sized-number, nu-sized-number, one-class-sized-number}
-use Rattle.promises.proofs.Travel.{Served}
+use Rattle.promises.proofs.Travel.{Served, served-travels}
+use Rattle.rounding.specs.Units.{Real}
 use Rattle.travel.specs.Home.{lastLeft}
+use Rattle.travel.specs.Travel.{Travelled}
 use Rattle.wire.specs.Wire.{digits, floatAt}
 use Rattle.handed.specs.Gives.{Gives}
+use Rattle.handed.specs.Trains.{generalTrains, cTrains, nuTrains, oneClassTrains}
 use Rattle.handed.proofs.Stored.{stored-at}
 
 -- ---- 0 says: not turned away
@@ -83,12 +90,14 @@ record Ran (k : Fit) (m cr h : List ℕ) (budget : ℕ) (w : Whole) (o : Handed)
   crate-long : 8 * k .given .n ≤ length cr
   home-long : 8 * k .given .n ≤ length h
 
-gives : {k : Fit} {m cr h : List ℕ} {budget : ℕ} {w : Whole} {o : Handed} → Ran k m cr h budget w o → Gives k m budget o
-gives {k = k} {m = m} {cr = cr} {h = h} {w = w} r = record {
+gives : {k : Fit} {m cr h : List ℕ} {budget : ℕ} {w : Whole} {o : Handed} → Ran k m cr h budget w o
+    → ((s : ℕ) → s < k .given .n → Double (ownWeight k m room budget s)) → Gives k m budget o
+gives {k = k} {m = m} {cr = cr} {h = h} {w = w} r double = record {
   home = λ s g.
       ap (λ (b : List ℕ). digits b (8 * s) 8) (r .out .home)
       ∙ stored-at (w .left .home) h (k .given .n) s (r .home-long) g
-      ∙ ap (λ (x : Float). toBits binary64 x % 256 ^ 8) (served-home (r .served) (r .out .answer) (r .out .accepted) s g);
+      ∙ ap (λ (x : Float). toBits binary64 x % 256 ^ 8) (served-home (r .served) (r .out .answer) (r .out .accepted) s g)
+      ∙ mod-eq-of-lt (toBits-lt binary64 _ (double s g));
   alike = λ off s g.
       ap (λ (b : List ℕ). digits b (8 * s) 8) (r .out .crate)
       ∙ stored-at (w .left .crate) cr (k .given .n) s (r .crate-long) g
@@ -127,15 +136,18 @@ unfolding entered sizes
 let-in n inputs m rc rh f u y w d i r =
     rw (lt-ltb 0 n (r .some), le-leb n 512 (r .most), i, eq-eqb m (8 * (n * n)) (r .matrix), le-leb n rc (r .crate), le-leb n rh (r .home), le-leb (7 * n) f (r .floats), le-leb (2 * n) u (r .numbers), le-leb n y (r .bytes))
 
-pub floats-at : (b : List ℕ) (n i : ℕ) → n ≤ 512 → i < n → getD (floatsOf b n) i nan ≡ floatAt b (8 * i)
+floats-at : (b : List ℕ) (n i : ℕ) → n ≤ 512 → i < n → getD (floatsOf b n) i nan ≡ floatAt b (8 * i)
 unfolding decodedTo freshPlaces
 floats-at b n i few h = prefix-at nan (decodedTo b freshPlaces) (λ k. floatAt b (8 * k)) (λ k. refl) n i (rw (length-replicate 512 Weight.zero) few) h
+
+pub decoded-double : (b : List ℕ) (n i : ℕ) → n ≤ 512 → i < n → Double (getD (floatsOf b n) i nan)
+decoded-double b n i few h = rw (floats-at b n i few h) (ofBits-fits binary64 _)
 
 -- ---- the four functions
 
 module _ (n : ℕ) (m l c a p : List ℕ) (nurule eps shrinking budget : ℕ) (cr h an : List ℕ) (z : generalHost n m l c a p nurule eps shrinking budget cr h an .code ≡ 0) where
   abbrev generalK : Fit
-  generalK = generalFit n l (floatsOf c n) (floatsOf a n) (floatsOf p n) (isOn nurule) (asFloat eps) (isOn shrinking)
+  generalK = generalTrains n l c a p nurule eps shrinking
 
   abbrev generalW : Whole
   generalW = generalSized n m l (floatsOf c n) (floatsOf a n) (floatsOf p n) (isOn nurule) (asFloat eps) (isOn shrinking) budget room
@@ -150,7 +162,17 @@ module _ (n : ℕ) (m l c a p : List ℕ) (nurule eps shrinking budget : ℕ) (c
       z
 
   pub general-gives : Gives generalK m budget (generalHost n m l c a p nurule eps shrinking budget cr h an)
-  general-gives = gives (general-ran .2)
+  general-gives =
+      let r = general-ran .2 in
+      gives r (served-own-double (r .served) (λ i g. decoded-double c n i (r .served .room .most) g) (λ i g. decoded-double a n i (r .served .room .most) g) (r .out .answer) (r .out .accepted))
+
+  -- the training was accepted, and it is the fit's over the call's own room: so all that is promised of a fit holds. Not of the entry `generalOf`,
+  -- which asks for lists of n places: what is read from the bytes has 512
+  pub general-called : (x : Answer) × (generalW .out ≡ Accepted x) × Served generalK m budget room generalW
+  general-called = let r = general-ran .2 in (r .out .answer, r .out .accepted, r .served)
+
+  pub general-called-travels : (t : ℕ) → Travelled n (λ s. getD l s 0) (λ s. getD (floatsOf p n) s nan) (after generalK m room t .state)
+  general-called-travels = served-travels (general-ran .2 .served)
 
   -- the box, where every lent ceiling is b
   module _ (b : Float) (fit : T (fits binary64 b)) (same : (i : ℕ) → i < n → getD (floatsOf c n) i nan ≡ b) where
@@ -158,17 +180,20 @@ module _ (n : ℕ) (m l c a p : List ℕ) (nurule eps shrinking budget : ℕ) (c
     one-b =
         let r = general-ran in
         general-common n m l (floatsOf c n) (floatsOf a n) (floatsOf p n) (isOn nurule) (asFloat eps) (isOn shrinking) budget (r .2 .served .room .some) (r .1) b fit same
-        (λ i g. rw (floats-at a n i (r .2 .served .room .most) g) (ofBits-fits binary64 _))
+        (λ i g. decoded-double a n i (r .2 .served .room .most) g)
 
     pub general-called-box : (t i : ℕ) → i < n → In b (weightAfter generalK m room t i)
     general-called-box = served-box (general-ran .2 .served) one-b
+
+    pub general-called-no-nan : (t i j : ℕ) → pairAfter generalK m room t ≡ Pair i j → Real (deltaAfter generalK m room t i j)
+    general-called-no-nan = served-no-nan (general-ran .2 .served) one-b
 
     pub general-called-home-box : (s : ℕ) → s < n → In b (lastLeft (stepsTaken generalK m room budget) s (getD (floatsOf a n) s nan))
     general-called-home-box = served-home-box (general-ran .2 .served) one-b
 
 module _ (n : ℕ) (m l : List ℕ) (cpos cneg eps shrinking budget : ℕ) (cr h an : List ℕ) (z : cHost n m l cpos cneg eps shrinking budget cr h an .code ≡ 0) where
   abbrev cK : Fit
-  cK = cFit n l (asFloat cpos) (asFloat cneg) (asFloat eps) (isOn shrinking)
+  cK = cTrains n l cpos cneg eps shrinking
 
   abbrev cW : Whole
   cW = fitCSized n m l (asFloat cpos) (asFloat cneg) (asFloat eps) (isOn shrinking) budget room
@@ -183,7 +208,13 @@ module _ (n : ℕ) (m l : List ℕ) (cpos cneg eps shrinking budget : ℕ) (cr h
       z
 
   pub c-gives : Gives cK m budget (cHost n m l cpos cneg eps shrinking budget cr h an)
-  c-gives = gives (c-ran .2)
+  c-gives =
+      let r = c-ran .2 in
+      let most = r .served .room .most in
+      gives r (served-own-double (r .served)
+      (λ i g. rw (cost-at (asFloat cpos) (asFloat cneg) l n i most g) (cond-fits binary64 (eqb (getD l i 0) 1) _ _ (ofBits-fits binary64 cpos) (ofBits-fits binary64 cneg)))
+      (λ i g. rw (getD-replicate 512 i Weight.zero nan (omega (arith, most))) (ofBits-fits binary64 0))
+      (r .out .answer) (r .out .accepted))
 
   -- the entry accepts, so all that is promised of it holds
   pub c-called : (x : Answer) × (fitCOf n m l (asFloat cpos) (asFloat cneg) (asFloat eps) (isOn shrinking) budget room .out ≡ Accepted x)
@@ -195,7 +226,7 @@ module _ (n : ℕ) (m l : List ℕ) (cpos cneg eps shrinking budget : ℕ) (cr h
 
 module _ (n : ℕ) (m l : List ℕ) (nu eps shrinking budget : ℕ) (cr h an : List ℕ) (z : nuHost n m l nu eps shrinking budget cr h an .code ≡ 0) where
   abbrev nuK : Fit
-  nuK = nuFit n l (asFloat nu) (asFloat eps) (isOn shrinking)
+  nuK = nuTrains n l nu eps shrinking
 
   abbrev nuW : Whole
   nuW = fitNuSized n m l (asFloat nu) (asFloat eps) (isOn shrinking) budget room
@@ -209,9 +240,6 @@ module _ (n : ℕ) (m l : List ℕ) (nu eps shrinking budget : ℕ) (cr h an : L
       (λ q i e. nu-sized-number n m l (asFloat nu) (asFloat eps) (isOn shrinking) budget room q i e .0)
       z
 
-  pub nu-gives : Gives nuK m budget (nuHost n m l nu eps shrinking budget cr h an)
-  nu-gives = gives (nu-ran .2)
-
   -- the entry accepts, so all that is promised of it holds
   pub nu-called : (x : Answer) × (fitNuOf n m l (asFloat nu) (asFloat eps) (isOn shrinking) budget room .out ≡ Accepted x)
   unfolding fitNuOf
@@ -220,9 +248,14 @@ module _ (n : ℕ) (m l : List ℕ) (nu eps shrinking budget : ℕ) (cr h an : L
       let i = inputs-right n (eqb (length l) n) (length m) (length cr) (length h) (length an) (r .0) in
       (r .2 .out .answer, ap (λ (q : Whole). q .out) (let-in n (eqb (length l) n) _ _ _ _ _ _ nuW room i (r .2 .served .room)) ∙ r .2 .out .accepted)
 
+  pub nu-gives : Gives nuK m budget (nuHost n m l nu eps shrinking budget cr h an)
+  nu-gives =
+      gives (nu-ran .2) (λ s g. coefficient-doubled (nuK .how) _ (rOf nuK m room budget) _
+      (nu-home-box n m l (asFloat nu) (asFloat eps) (isOn shrinking) budget room (nu-called .0) (nu-called .1) (ofBits-fits binary64 nu) s g .number .fit))
+
 module _ (n : ℕ) (m : List ℕ) (nu eps shrinking budget : ℕ) (cr h an : List ℕ) (z : oneClassHost n m nu eps shrinking budget cr h an .code ≡ 0) where
   abbrev oneClassK : Fit
-  oneClassK = oneClassFit n (asFloat nu) (asFloat eps) (isOn shrinking)
+  oneClassK = oneClassTrains n nu eps shrinking
 
   abbrev oneClassW : Whole
   oneClassW = fitOneClassSized n m (asFloat nu) (asFloat eps) (isOn shrinking) budget room
@@ -236,9 +269,6 @@ module _ (n : ℕ) (m : List ℕ) (nu eps shrinking budget : ℕ) (cr h an : Lis
       (λ q i e. one-class-sized-number n m (asFloat nu) (asFloat eps) (isOn shrinking) budget room q i e .0)
       z
 
-  pub one-class-gives : Gives oneClassK m budget (oneClassHost n m nu eps shrinking budget cr h an)
-  one-class-gives = gives (one-class-ran .2)
-
   -- the entry accepts, so all that is promised of it holds
   pub one-class-called : (x : Answer) × (fitOneClassOf n m (asFloat nu) (asFloat eps) (isOn shrinking) budget room .out ≡ Accepted x)
   unfolding fitOneClassOf
@@ -246,3 +276,8 @@ module _ (n : ℕ) (m : List ℕ) (nu eps shrinking budget : ℕ) (cr h an : Lis
       let r = one-class-ran in
       let i = inputs-right n true (length m) (length cr) (length h) (length an) (r .0) in
       (r .2 .out .answer, ap (λ (q : Whole). q .out) (let-in n true _ _ _ _ _ _ oneClassW room i (r .2 .served .room)) ∙ r .2 .out .accepted)
+
+  pub one-class-gives : Gives oneClassK m budget (oneClassHost n m nu eps shrinking budget cr h an)
+  one-class-gives =
+      gives (one-class-ran .2) (λ s g. coefficient-doubled (oneClassK .how) _ (rOf oneClassK m room budget) _
+      (one-class-home-box n m (asFloat nu) (asFloat eps) (isOn shrinking) budget room (one-class-called .0) (one-class-called .1) (ofBits-fits binary64 nu) s g .number .fit))

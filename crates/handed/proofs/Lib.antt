@@ -1,3 +1,6 @@
 pub mod Stored
 pub mod Handed
+pub mod Called
+pub mod Numbers
 pub mod Retired
+pub mod Leaves

@@ -4,25 +4,25 @@ use Prim.Native.Nat.{ℕ, _*_, _%_, _^_, _≤_, _<_}
 use mathlib.Core.Bool.{Bool, true, false, _&&_, cond}
 use mathlib.Core.List.{List}
 use mathlib.Core.Path.{_≡_, refl, sym, ap, _∙_}
+use native.Mathlib.Nat.{mod-eq-of-lt}
 use native.Mathlib.Omega.{arith}
 use borrow.Author.Tests.{eqb-true, eq-eqb}
 use lib.Dec.{T, eqb}
 use lib.Ieee.{Float, nan, binary64, toBits, ofBits, fits}
-use lib.Ieee.Bits.{ofBits-fits}
+use lib.Ieee.Bits.{toBits-lt}
 use lib.ListN.{length, getD}
 use Rattle.alpha.specs.Weight as Weight
 use Rattle.altuliscia.specs.Functions.{isOn, asFloat, byteSizes, generalInputs, tuningKnown, generalHost, retiredHost}
 use Rattle.answer.specs.Lent.{Whole}
 use Rattle.answer.specs.declared.Answer.{Answer}
-use Rattle.answer.specs.declared.Outcome.{Outcome}
-use Rattle.answer.specs.declared.Outcome.the-variants.{Accepted, Refused}
+use Rattle.answer.specs.declared.Outcome.the-variants.{Accepted}
 use Rattle.boxed.specs.Range.{In}
 use Rattle.extreme.specs.declared.Choice.the-variants.{Pair}
-use Rattle.hosted.specs.Hosted.{floatsOf, hostSizes, deliveredBy, room, Handed, handed, delivered, turnedAway, hostedBy}
+use Rattle.hosted.specs.Hosted.{floatsOf, room, Handed, handed, delivered, turnedAway, hostedBy}
 use Rattle.hosted.proofs.Serves.{Serves, inputs-right, serves}
-use Rattle.judge.specs.Sizes.{countGood, roomGood, sizes}
 use Rattle.promises.specs.Fit.{Fit, weightAfter}
 use Rattle.promises.specs.Retired.{retiredFit, silentFit, afterOver, weightOver, pairOver, deltaOver, stepsOver, ownOver}
+use Rattle.promises.proofs.Doubles.{Double, taken-own-double}
 use Rattle.promises.proofs.Numbers.{retired-sized-number}
 use Rattle.promises.proofs.Retired.{taken-alike, taken-home, taken-reads, taken-travels, taken-pairs, taken-iterations, taken-coded}
 use Rattle.promises.proofs.RetiredBox.{taken-box, taken-no-nan, taken-home-box}
@@ -35,7 +35,8 @@ use Rattle.rounding.proofs.Order.{both}
 use Rattle.travel.specs.Travel.{Travelled}
 use Rattle.wire.specs.Wire.{digits}
 use Rattle.handed.specs.Gives.{decoded, GivesOver}
-use Rattle.handed.proofs.Handed.{turned-not, Out, delivered-out, room-fits, floats-at}
+use Rattle.handed.proofs.Handed.{turned-not, Out, delivered-out, room-fits, decoded-double}
+use Rattle.handed.proofs.Numbers.{hosted-code}
 use Rattle.handed.proofs.Stored.{stored-at}
 
 module _ (n : ℕ) (m l c a p r : List ℕ) (nurule eps shrinking budget : ℕ) (t cr h an : List ℕ) (z : retiredHost n m l c a p r nurule eps shrinking budget t cr h an .code ≡ 0) where
@@ -82,13 +83,16 @@ module _ (n : ℕ) (m l c a p r : List ℕ) (nurule eps shrinking budget : ℕ) 
   home-at : (s : ℕ) → s < n → digits (o .home) (8 * s) 8 ≡ toBits binary64 (getD (w .left .home) s nan) % 256 ^ 8
   home-at s g = ap (λ (b : List ℕ). digits b (8 * s) 8) (out .home) ∙ stored-at (w .left .home) h n s (served .home) g
 
+  own-double : (s : ℕ) → s < n → Double (ownOver (standsIn r) k m room budget s)
+  own-double = taken-own-double called-taken (λ i g. decoded-double c n i (served .room .most) g) (λ i g. decoded-double a n i (served .room .most) g)
+
   no-bits : toBits binary64 Weight.zero % 256 ^ 8 ≡ 0
   unfolding toBits ofBits
   no-bits = refl
 
   pub retired-gives : GivesOver r k m budget o
   retired-gives = record {
-    home = λ s g. home-at s g ∙ ap (λ (y : Float). toBits binary64 y % 256 ^ 8) (taken-home called-taken s g);
+    home = λ s g. home-at s g ∙ ap (λ (y : Float). toBits binary64 y % 256 ^ 8) (taken-home called-taken s g) ∙ mod-eq-of-lt (toBits-lt binary64 _ (own-double s g));
     reads = λ s g q. home-at s g ∙ ap (λ (y : Float). toBits binary64 y % 256 ^ 8) (taken-reads called-taken s g q) ∙ no-bits;
     alike = λ s g.
         ap (λ (b : List ℕ). digits b (8 * s) 8) (out .crate)
@@ -114,7 +118,7 @@ module _ (n : ℕ) (m l c a p r : List ℕ) (nurule eps shrinking budget : ℕ) 
   -- the box, where every ceiling that is lent for one that stands is b
   module _ (b : Float) (fit : T (fits binary64 b)) (same : (i : ℕ) → i < n → standsIn r i ≡ true → getD (floatsOf c n) i nan ≡ b) where
     fit-a : (i : ℕ) → i < n → standsIn r i ≡ true → T (fits binary64 (getD (floatsOf a n) i nan))
-    fit-a i g q = rw (floats-at a n i (served .room .most) g) (ofBits-fits binary64 _)
+    fit-a i g q = decoded-double a n i (served .room .most) g
 
     pub retired-called-box : (q i : ℕ) → i < n → standsIn r i ≡ true → In b (weightOver (standsIn r) k m room q i)
     retired-called-box = taken-box called-taken b fit same fit-a
@@ -127,40 +131,13 @@ module _ (n : ℕ) (m l c a p r : List ℕ) (nurule eps shrinking budget : ℕ) 
 
 -- ---- what it answers, accepted or not: 0 to 10, 12 or 13
 
-abbrev Listed : ℕ → Type 0
-Listed q = (q ≤ 13) × (q ≡ 11 → ⊥)
-
-few : (n : ℕ) (inputs : Bool) (m rc rh f u y : ℕ) → sizes n inputs m rc rh f u y ≤ 2
-unfolding sizes
-few n inputs m rc rh f u y = go (countGood n) (inputs && roomGood n m rc rh f u y)
-  where
-    go : (a b : Bool) → cond a (cond b 0 2) 1 ≤ 2
-    go true true = omega arith
-    go true false = omega arith
-    go false b = omega arith
-
-delivered-listed : (n : ℕ) (w : Whole) (cr h an : List ℕ) → ((q i : ℕ) → w .out ≡ Refused q i → (1 ≤ q) × (q ≤ 13) × (q ≡ 11 → ⊥)) → Listed (delivered n w cr h an .code)
-unfolding delivered deliveredBy
-delivered-listed n w cr h an told = go (w .out) refl
-  where
-    go : (o : Outcome) → w .out ≡ o → Listed (deliveredBy n o (w .left .crate) (w .left .home) cr h an .code)
-    go (Accepted x) e = (omega arith, λ z. omega arith)
-    go (Refused q i) e = let t = told q i e in (t .1, t .2)
-
-hosted-listed : (number : ℕ) (w : Handed) (cr h an : List ℕ) → number ≤ 2 → Listed (w .code) → Listed (hostedBy number w cr h an .code)
-unfolding hostedBy
-hosted-listed number w cr h an small told = go (eqb number 0)
-  where
-    go : (b : Bool) → Listed (cond b w (handed number cr h (turnedAway number an)) .code)
-    go true = told
-    go false = (omega arith, λ z. omega arith)
-
 pub retired-called-number : (n : ℕ) (m l c a p r : List ℕ) (nurule eps shrinking budget : ℕ) (t cr h an : List ℕ)
     → (retiredHost n m l c a p r nurule eps shrinking budget t cr h an .code ≤ 13) × (retiredHost n m l c a p r nurule eps shrinking budget t cr h an .code ≡ 11 → ⊥)
-unfolding retiredHost hostSizes
+unfolding retiredHost
 retired-called-number n m l c a p r nurule eps shrinking budget t cr h an =
-    hosted-listed _ _ cr h an (few n _ _ _ _ _ _ _)
-    (delivered-listed n _ cr h an (retired-sized-number n m l (floatsOf c n) (floatsOf a n) (floatsOf p n) r (isOn nurule) (asFloat eps) (isOn shrinking) budget room))
+    hosted-code (λ q. (q ≤ 13) × (q ≡ 11 → ⊥)) (omega arith, λ z. omega arith) (omega arith, λ z. omega arith) (omega arith, λ z. omega arith) n _ cr h an
+    (λ q i e. let x = retired-sized-number n m l (floatsOf c n) (floatsOf a n) (floatsOf p n) r (isOn nurule) (asFloat eps) (isOn shrinking) budget room q i e in (x .1, x .2))
+    (generalInputs n l c a p && eqb (length r) n && tuningKnown t) m
 
 -- ---- two calls that differ in what is lent for who is retired: where both answer 0, they write the same bytes
 

@@ -78,7 +78,7 @@ module _ (n : ℕ) (m l : List ℕ) (c a p : List Float) (nurule : Bool) (eps : 
 
 -- ---- C: one cost for both labels
 
-cost-at : (cpos cneg : Float) (l : List ℕ) (n i : ℕ) → n ≤ 512 → i < n → getD (costsTo cpos cneg l nothing n) i nan ≡ costOf cpos cneg (getD l i 0)
+pub cost-at : (cpos cneg : Float) (l : List ℕ) (n i : ℕ) → n ≤ 512 → i < n → getD (costsTo cpos cneg l nothing n) i nan ≡ costOf cpos cneg (getD l i 0)
 unfolding costsTo
 cost-at cpos cneg l n i b h =
     prefix-at nan (costsTo cpos cneg l nothing) (λ k. costOf cpos cneg (getD l k 0)) (λ k. refl) n i (rw (length-replicate 512 Weight.zero) b) h

@@ -10,3 +10,6 @@ pub mod Retired
 pub mod RetiredBox
 pub mod RetiredEntry
 pub mod Threshold
+pub mod Beyond
+pub mod Leaves
+pub mod Doubles

@@ -1,3 +1,4 @@
 pub mod Fit
 pub mod Retired
 pub mod Threshold
+pub mod Leaves
