@@ -1,1 +1,1 @@
-// Theorems only: the box, and no NaN step, over a whole run.
+// The box, and no NaN step, over a whole run: definitions and theorems only.

@@ -1,1 +1,1 @@
-// Theorems only: the worked examples, one table.
+// The worked examples, as one table: definitions and one theorem.

@@ -1,4 +1,17 @@
 -- The order of all floats, whether or not a format holds them. A NaN compares with nothing. Assumes nothing.
+--
+-- Main theorems:
+--   holds: a test as a fact is the test equal to true; `fails` has false
+--   le-real: where one float is at most another, neither is NaN; `lt-real` for below
+--   le-refl: a float that is no NaN is at most itself
+--   le-trans: at most and at most is at most; `lt-le-trans` and `le-lt-trans` where one of the two is below
+--   not-le: of two that are no NaN, not at most is above; `not-lt`: not below is at least
+--   le-total: of two that are no NaN, one is at most the other
+--   lt-asym: of two floats at most one is below the other; `lt-irrefl`: none is below itself
+--   least: minus infinity is at most all that is no NaN; `greatest`: infinity is at least that
+--   eq-le: equal is at most, both ways
+--   ne-itself: only a NaN differs from itself
+--   neg-neg: negated twice is the same float
 use mathlib.Core.Path.{_≡_, refl, ap}
 use mathlib.Core.Logic.{_⊎_, inl, inr, _↔_}
 use mathlib.Core.Bool.{Bool, true, false, not, _&&_, cond, true≢false, false≢true}

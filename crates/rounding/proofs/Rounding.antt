@@ -1,4 +1,15 @@
 -- Rounding to a format, in units: it keeps the order, each value of the format and its double, and a power of two as a bound. Assumes nothing.
+--
+-- Main theorems:
+--   round-number: what is rounded is a number of the format
+--   round-neg: rounding with the other sign negates
+--   round-parts: n units that are rounded have the parts n rounded and 0, or the other way round where the sign is minus
+--   value-parts: a value of the format that is u units has the parts u and 0, or the other way round
+--   rounded-mono: rounding keeps the order
+--   rounded-zero: 0 stays 0; `rounded-pos`: what is above 0 stays above
+--   rounded-power: what is at most 2^k stays at most 2^k, below the overflow
+--   rounded-top: from the overflow on it is the infinity's number
+--   rounded-parts: a number of the format stays; `rounded-twice`: so does its double, below the overflow
 use mathlib.Core.Path.{_≡_, refl, sym, ap, ap₂, _∙_, subst}
 use mathlib.Core.Logic.{_⊎_, inl, inr}
 use mathlib.Core.Bool.{Bool, true, false, not, cond}

@@ -1,4 +1,13 @@
 -- A sum and a difference are the exact ones, rounded once: they keep the order, and the sign of a difference is the exact one's. Assumes nothing.
+--
+-- Main theorems:
+--   add-rounds: a sum of numbers that is no NaN is the exact one, rounded once; `sub-rounds` for a difference
+--   add-number: where one operand is finite, the sum of two numbers is a number; `sub-number` for a difference
+--   rounds-mono: rounded values keep the order of the exact ones
+--   add-mono: sums of numbers that are no NaN keep the order in both operands; `sub-mono` for differences
+--   sign: a rounded value compares with zero as the exact one
+--   sub-above: a difference of numbers that is no NaN is above zero exactly where its first operand is above the second
+--   sub-self: x less x, where it is no NaN, is a zero
 use mathlib.Core.Path.{_≡_, refl, sym, ap, _∙_}
 use mathlib.Core.Logic.{_⊎_, inl, inr, _↔_}
 use mathlib.Core.Bool.{Bool, true, false, not, _&&_, Bool·beq, cond}

@@ -1,4 +1,15 @@
 -- A number's parts: its order, its negation, where it is finite, and that they tell what number it is, but for a zero's sign. Assumes nothing.
+--
+-- Main theorems:
+--   value: the magnitude of a finite number m · 2^e is m with zeros behind it, below the overflow
+--   exact-value: a finite number is its magnitude in units, exactly
+--   compare: two numbers compare as the sums of their parts do, crosswise: nothing is taken off
+--   by-sign: what holds of (0, magnitude) and of (magnitude, 0) holds of the parts; `one-part`: one of them is 0
+--   eq-parts: two numbers are equal exactly where both parts are
+--   zero-parts: a zero has no parts; `neg-parts`: a negation has them exchanged
+--   finite-parts: a number is finite exactly where both parts are below the overflow
+--   same-number: a number is known by its sign and its magnitude
+--   same-parts: and by its parts, where it is no zero
 use mathlib.Core.Path.{_≡_, refl, sym, ap, ap₂, _∙_}
 use mathlib.Core.Logic.{_↔_}
 use mathlib.Core.Bool.{Bool, true, false, _&&_, cond}

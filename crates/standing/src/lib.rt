@@ -1,1 +1,1 @@
-// Training with retired samples.
+// The run over the samples that stand: definitions and theorems, no code.

@@ -1,4 +1,8 @@
 -- What a step records is what the update left, at active positions. Assumes nothing.
+--
+-- Main theorems:
+--   step-left: the step that a pass adds is of two active positions, of the samples that stood there, with the weights that the update left
+--   each-step: each step of a trace is that of a pass which was made
 use Prim.Native.Nat.{ℕ, zero, suc, _*_, _≤_, _<_}
 use mathlib.Core.Bool.{Bool, true, false}
 use mathlib.Core.List.{List, [], _∷_, _++_, append-nil}

@@ -1,4 +1,10 @@
 -- What a pass does, by the pair with which it steps. Assumes nothing.
+--
+-- Main theorems:
+--   look-run: no look changes the small record
+--   pair-look: the pair with which a pass steps is the choice in the state of its last look
+--   pass-steps: a pass with a pair is one update from that state, and one iteration
+--   pass-ends: a pass with no pair goes no further than its walk, or finds none at either look and ends the run
 use Prim.Native.Nat.{ℕ, _+_}
 use mathlib.Core.Bool.{Bool, true, false}
 use mathlib.Core.List.{List}

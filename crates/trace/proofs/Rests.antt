@@ -1,4 +1,8 @@
 -- What a start and a reconstruction leave as it was. Assumes nothing.
+--
+-- Main theorems:
+--   same-started: the start leaves weights, ceilings and linear terms; `same-laid`, `same-gathered` and `same-diagonal` are its parts
+--   same-reconstructed: a reconstruction leaves all but the gradients
 use Prim.Native.Nat.{ℕ, zero, suc, _+_, _-_, _*_, _≤_, _<_}
 use mathlib.Core.Bool.{Bool, true, false, cond}
 use mathlib.Core.List.{List}

@@ -1,4 +1,14 @@
 -- The run, told by its passes and by its steps. Assumes nothing.
+--
+-- Main theorems:
+--   state-at: the k-th state of the list is what the k-th pass left, from where the run was going on
+--   pass-by-pass: each state is the pass of the one before
+--   last-state: the run's end is the last of them, or its start where there is none
+--   states-off: a run that has stopped makes no pass; `traced-off`: and no step
+--   iterations-are-steps: the iterations of a run grow by the number of its steps
+--   steps-at-most: t passes make at most t steps; `steps-going`: exactly t while the run goes on
+--   trained-iterations: the count that is answered is the number of steps; `trained-at-most`: at most the budget
+--   trained-last: the answer is read off the last state
 use Prim.Native.Nat.{ℕ, zero, suc, _+_, _≤_, _<_}
 use mathlib.Core.Bool.{Bool, true, false, _&&_, cond, true≢false}
 use mathlib.Core.List.{List, [], _∷_, _++_, append-nil}

@@ -1,4 +1,9 @@
 -- The order that a run leaves names samples: where each kernel index is the sample number at the start, it is at the end. Assumes nothing.
+--
+-- Main theorems:
+--   sample-moved: what a move does to the order; `index-moved`: and to the kernel indices
+--   runs-numbered: where each kernel index is the sample number, it is after any number of passes; `trained-numbered`: and at the end
+--   trained-within: so the order that is left names samples only, where the matrix has n rows
 use Prim.Native.Nat.{ℕ, _*_, _≤_, _<_}
 use mathlib.Core.List.{List}
 use mathlib.Core.Path.{_≡_, sym, _∙_}

@@ -1,4 +1,9 @@
 -- The gradients after a step, place by place. Assumes nothing.
+--
+-- Main theorems:
+--   shiftedTo-at: each of the first k gradients is what it was, plus the sum of both rows' changes, which is rounded first
+--   shiftedTo-other: all from place k on is as it was
+--   length-shiftedTo: the list is as long as before
 use Prim.Native.Nat.{ℕ, _≤_, _<_}
 use mathlib.Core.Path.{_≡_, refl}
 use native.Mathlib.Omega.{arith}

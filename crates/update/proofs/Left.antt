@@ -1,4 +1,12 @@
 -- What an update leaves at each place. Assumes nothing.
+--
+-- Main theorems:
+--   length-updated: the list is as long as before
+--   alpha-i: position i has the new weight and the ceiling of its place, where i and j are two; `alpha-j` for j; `alpha-other`: all others as before
+--   behind: linear terms, the diagonal, the row and all behind are as before
+--   gradient-active: the gradient of an active position after the step; `gradient-inactive`: the others' are as before
+--   fixed-active: the fixed gradient of an active position has both turns, i's first, where i and j are two
+--   fixed-inactive: that of the others has i's turn alone
 use Prim.Native.Nat.{ℕ, _+_, _*_, _≤_, _<_}
 use native.Mathlib.Omega.{arith}
 use mathlib.Core.List.{List}
