@@ -41,13 +41,6 @@ fn words(list: &[f64]) -> Vec<u64> {
     list.iter().map(|x| canonical(*x)).collect()
 }
 
-/// Where zeros of different sign were met, a zero rho may have either sign.
-fn same_rho(told: &Told, rho: f64) -> bool {
-    let zero = |word: u64| word << 1 == 0;
-    let word = canonical(rho);
-    told.rho == word || (told.zero_pair == 1 && zero(told.rho) && zero(word))
-}
-
 /// Where the end of the run parts from the record, in a word.
 fn end_differs(p: &Problem, told: &Told, ran: &Ran) -> Option<&'static str> {
     let n = p.n as usize;
@@ -62,7 +55,7 @@ fn end_differs(p: &Problem, told: &Told, ran: &Ran) -> Option<&'static str> {
         (ran.refused, "refused"),
         (ran.numbers[..n] != told.order[..], "order"),
         (words(&ran.floats[2 * n..3 * n]) != told.weights, "weights"),
-        (!same_rho(told, ran.out[0]), "rho"),
+        (canonical(ran.out[0]) != told.rho, "rho"),
         (told.r_present == 1 && canonical(ran.out[1]) != told.r, "r"),
         (canonical(ran.out[2]) != told.obj, "obj"),
         (ran.iterations != told.iterations, "iterations"),
@@ -77,7 +70,7 @@ fn end_differs(p: &Problem, told: &Told, ran: &Ran) -> Option<&'static str> {
         .map(|(_, name)| name)
 }
 
-/// The first pass whose pair doesn't have the recorded weights, if there is one.
+/// The first pass after which the recorded pair doesn't have the recorded weights, if there is one.
 fn pass_differs(p: &Problem, told: &Told, counts: &mut Counts) -> Option<u64> {
     let n = p.n as usize;
     for (k, step) in told.trace.iter().enumerate() {
@@ -117,7 +110,7 @@ fn call(k: usize, p: &Problem, told: &Told, c: &mut Counts) {
     let g = &mut Random::new(k as u64);
     let mut call = Call::new(g, p.clone(), Spoiled::Nothing);
     let (_, differs) = call.compare();
-    let parted = told.zero_pair == 0 && call.written(told.home.len()) != written(told);
+    let parted = call.written(told.home.len()) != written(told);
     if let Some(what) = differs.or(parted.then_some("the record")) {
         c.differ += 1;
         println!("record {k}, retired: {what}");
