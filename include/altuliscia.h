@@ -55,8 +55,10 @@ extern "C" {
 
 /* Why an accepted run ended. */
 enum altuliscia_reason {
-    /* No pair is left that breaks the conditions by eps or more. With shrinking on: among the samples still active, by the gradients
-     * as they are kept; then obj and rho needn't be those of the answered weights. */
+    /* Over the active samples whose gradient is a number, the sum of the largest rise (-y*gradient, where y*weight may grow) and the
+     * largest fall (y*gradient, where it may shrink) is below eps, or is not above 0; under the nu rule so is each label's. It is not
+     * above 0, too, where it is NaN, of two infinities. Retired samples are passed over. With shrinking off all others are active;
+     * with it on, the gradients are those that are kept, and obj and rho needn't be those of the answered weights. */
     ALTULISCIA_THRESHOLD = 0,
     /* The budget ran out: exactly where the number of steps equals it. */
     ALTULISCIA_ITERATIONS = 1

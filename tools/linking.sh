@@ -9,6 +9,7 @@
 #   link_cc        the C compiler
 #   link_run       what runs an x86-64 program; empty where the machine does, or its own code is linked
 #   not_linked     says that what links an archive isn't run, and what would make it run
+#   not_emulated   says so where code of the machine's own is linked in its place
 link_packages='gcc-x86-64-linux-gnu libc6-dev-amd64-cross qemu-user rustc libstd-rust-dev:amd64'
 link_target=x86_64-unknown-linux-gnu
 link_tools=$(pwd)/tools/debian
@@ -49,6 +50,12 @@ archive() {
     if [ "${archives##*/}" = native ]; then tools/native "$archives" "$1"; else rt staticlib "$1" > /dev/null; fi
 }
 
+link_how="on Debian it is run after: dpkg --add-architecture amd64 && apt update && apt install $link_packages"
+
 not_linked() {
-    echo "NOT RUN: what links an archive for x86-64 (callers in C and Rust, comparison, captions); on Debian these packages make it run: $link_packages"
+    echo "NOT RUN: what links an archive for x86-64 (callers in C, Rust and Python, comparison, captions, bench/); $link_how"
+}
+
+not_emulated() {
+    [ "${archives##*/}" != native ] || echo "NOT RUN: the archive for x86-64 itself; the same modules compiled for this machine are linked; $link_how"
 }

@@ -15,6 +15,7 @@ use std::cell::{Cell, RefCell};
 use std::panic::{self, AssertUnwindSafe};
 use std::sync::Once;
 
+pub use linfa::Kept;
 pub use linfa_svm::watch::{Events, Step};
 
 /// Why an accepted run ended.
@@ -66,7 +67,7 @@ pub enum Outcome {
 pub struct Answer {
     pub outcome: Outcome,
     /// Whether a `max` or `min` met two zeros of different sign. Rust leaves
-    /// such a result's sign open, so these runs are outside the comparison.
+    /// such a result's sign open; [`solve_keeping`] says which comes out.
     pub zero_pair: bool,
     pub events: Events,
 }
@@ -96,7 +97,13 @@ pub fn canonical(x: f64) -> u64 {
     }
 }
 
-/// The problem's answer: refused, or what the published solver answers.
+/// As [`solve`], with that choice between zeros of different sign.
+pub fn solve_keeping(kept: Kept, p: &Problem, trace: bool) -> Answer {
+    linfa::keeping(kept, || solve(p, trace))
+}
+
+/// The problem's answer: refused, or what the published solver answers. Of
+/// zeros of different sign `max` and `min` keep the first.
 pub fn solve(p: &Problem, trace: bool) -> Answer {
     if let Some(refusal) = judge(p) {
         return Answer {

@@ -1,6 +1,6 @@
 //! What the solver leans on behaves as the crates it stands in for.
 
-use linfa::{forget_zero_pair, met_zero_pair, Float};
+use linfa::{forget_zero_pair, keeping, met_zero_pair, Float, Kept};
 use linfa_kernel::Kernel;
 use linfa_svm::classification::fit_c;
 use linfa_svm::regression;
@@ -37,6 +37,22 @@ fn two_zeros_of_different_sign_are_noted_and_the_first_is_kept() {
     assert!(!met_zero_pair());
     assert_eq!(bits(<f64 as Float>::min(0.0, -0.0)), bits(0.0));
     assert!(met_zero_pair());
+}
+
+#[test]
+fn of_two_zeros_the_one_asked_for_comes_out() {
+    let zeros = || {
+        let (x, y) = std::hint::black_box((-0.0, 0.0));
+        let (max, min) = (<f64 as Float>::max(x, y), <f64 as Float>::min(y, x));
+        (bits(max), bits(min))
+    };
+    assert_eq!(keeping(Kept::First, zeros), (bits(-0.0), bits(0.0)));
+    assert_eq!(keeping(Kept::Second, zeros), (bits(0.0), bits(-0.0)));
+    forget_zero_pair();
+    keeping(Kept::Own, zeros);
+    assert!(met_zero_pair());
+    // and the first again
+    assert_eq!(zeros(), (bits(-0.0), bits(0.0)));
 }
 
 #[test]

@@ -23,14 +23,14 @@ pub data Row : Type 0 where
   -- what is dropped, by sample; then the order after the walk, the active count, and whether refusal 11 is given
   walks : (pattern : List Bool) (order : List ℕ) (active : ℕ) (refused : Bool) → Row
 
-abbrev pub ten : Float
-ten = ofBits binary64 0x4024_0000_0000_0000
+abbrev pub w10 : Float
+w10 = ofBits binary64 0x4024_0000_0000_0000
 
-abbrev pub twenty : Float
-twenty = ofBits binary64 0x4034_0000_0000_0000
+abbrev pub w20 : Float
+w20 = ofBits binary64 0x4034_0000_0000_0000
 
-abbrev pub thirty : Float
-thirty = ofBits binary64 0x403e_0000_0000_0000
+abbrev pub w30 : Float
+w30 = ofBits binary64 0x403e_0000_0000_0000
 
 -- K is kept, S is dropped
 abbrev pub K : Bool
@@ -45,7 +45,7 @@ move i j = record { i = i; j = j }
 -- ---- each example played
 
 abbrev pub weightAt : ℕ → Float
-weightAt k = getD (ten ∷ twenty ∷ thirty ∷ []) k nan
+weightAt k = getD (w10 ∷ w20 ∷ w30 ∷ []) k nan
 
 -- 0, 1, .. before the list
 abbrev pub upTo : ℕ → List ℕ → List ℕ
@@ -56,9 +56,9 @@ upTo (suc n) l = upTo n (n ∷ l)
 abbrev pub fresh : ℕ → State
 fresh n = state [] (upTo n (upTo n [])) (replicate n 1)
 
-abbrev pub after : ℕ → List Move → State → State
-after n [] s = s
-after n (m ∷ ms) s = after n ms (moved n s (m .i) (m .j))
+abbrev pub movedBy : ℕ → List Move → State → State
+movedBy n [] s = s
+movedBy n (m ∷ ms) s = movedBy n ms (moved n s (m .i) (m .j))
 
 abbrev pub walkOf : List Bool → Walking State
 walkOf p = walked (λ s k. getD p (sample s k) K) (moved (length p)) (length p) (fresh (length p)) (length p)
@@ -69,7 +69,7 @@ orderOf n s = take n (s .numbers)
 -- the row with its results computed
 abbrev pub computed : Row → Row
 computed (reads o c h) = reads o (crateReading 3 o weightAt (replicate 3 nan)) (homeReading 3 o weightAt (replicate 3 nan))
-computed (moves ms o) = moves ms (orderOf 3 (after 3 ms (fresh 3)))
+computed (moves ms o) = moves ms (orderOf 3 (movedBy 3 ms (fresh 3)))
 computed (walks p o a r) = let w = walkOf p in walks p (orderOf (length p) (w .state)) (w .active) (w .refused)
 
 -- ---- the table
@@ -77,13 +77,13 @@ computed (walks p o a r) = let w = walkOf p in walks p (orderOf (length p) (w .s
 abbrev pub table : List Row
 table =
     -- M1
-    reads (0 ∷ 1 ∷ 2 ∷ []) (ten ∷ twenty ∷ thirty ∷ []) (ten ∷ twenty ∷ thirty ∷ []) ∷
+    reads (0 ∷ 1 ∷ 2 ∷ []) (w10 ∷ w20 ∷ w30 ∷ []) (w10 ∷ w20 ∷ w30 ∷ []) ∷
     -- M2
-    reads (1 ∷ 0 ∷ 2 ∷ []) (twenty ∷ ten ∷ thirty ∷ []) (twenty ∷ ten ∷ thirty ∷ []) ∷
+    reads (1 ∷ 0 ∷ 2 ∷ []) (w20 ∷ w10 ∷ w30 ∷ []) (w20 ∷ w10 ∷ w30 ∷ []) ∷
     -- M3
-    reads (1 ∷ 2 ∷ 0 ∷ []) (twenty ∷ thirty ∷ ten ∷ []) (thirty ∷ ten ∷ twenty ∷ []) ∷
+    reads (1 ∷ 2 ∷ 0 ∷ []) (w20 ∷ w30 ∷ w10 ∷ []) (w30 ∷ w10 ∷ w20 ∷ []) ∷
     -- M4
-    reads (2 ∷ 0 ∷ 1 ∷ []) (thirty ∷ ten ∷ twenty ∷ []) (twenty ∷ thirty ∷ ten ∷ []) ∷
+    reads (2 ∷ 0 ∷ 1 ∷ []) (w30 ∷ w10 ∷ w20 ∷ []) (w20 ∷ w30 ∷ w10 ∷ []) ∷
     -- M5
     moves (move 0 1 ∷ move 1 2 ∷ []) (1 ∷ 2 ∷ 0 ∷ []) ∷
     -- M6

@@ -14,7 +14,7 @@ use Rattle.hosted.specs.Hosted.{room}
 use Rattle.promises.specs.Fit.{Fit, after, weightAfter, pairAfter, deltaAfter, stepsTaken}
 use Rattle.promises.proofs.Boxes.{c-box, c-no-nan, c-home-box, nu-box, nu-no-nan, nu-home-box, one-class-box, one-class-no-nan, one-class-home-box}
 use Rattle.promises.proofs.Entries.{c-travels, nu-travels, one-class-travels}
-use Rattle.rounding.specs.Units.{Real}
+use Rattle.rounding.specs.Units.{NotNan}
 use Rattle.travel.specs.Home.{lastLeft}
 use Rattle.travel.specs.Travel.{Travelled}
 use Rattle.handed.specs.Trains.{cTrains, nuTrains, oneClassTrains}
@@ -38,7 +38,7 @@ module _ (n : ℕ) (m l : List ℕ) (cost eps shrinking budget : ℕ) (cr h an :
       let x = c-called n m l cost cost eps shrinking budget cr h an z in
       c-box n m l (asFloat cost) (asFloat eps) (isOn shrinking) budget room (x .0) (x .1) (ofBits-fits binary64 cost)
 
-  pub c-called-no-nan : (t i j : ℕ) → pairAfter cK m room t ≡ Pair i j → Real (deltaAfter cK m room t i j)
+  pub c-called-no-nan : (t i j : ℕ) → pairAfter cK m room t ≡ Pair i j → NotNan (deltaAfter cK m room t i j)
   c-called-no-nan =
       let x = c-called n m l cost cost eps shrinking budget cr h an z in
       c-no-nan n m l (asFloat cost) (asFloat eps) (isOn shrinking) budget room (x .0) (x .1) (ofBits-fits binary64 cost)
@@ -64,7 +64,7 @@ module _ (n : ℕ) (m l : List ℕ) (nu eps shrinking budget : ℕ) (cr h an : L
       let x = nu-called n m l nu eps shrinking budget cr h an z in
       nu-box n m l (asFloat nu) (asFloat eps) (isOn shrinking) budget room (x .0) (x .1) (ofBits-fits binary64 nu)
 
-  pub nu-called-no-nan : (t i j : ℕ) → pairAfter nuK m room t ≡ Pair i j → Real (deltaAfter nuK m room t i j)
+  pub nu-called-no-nan : (t i j : ℕ) → pairAfter nuK m room t ≡ Pair i j → NotNan (deltaAfter nuK m room t i j)
   nu-called-no-nan =
       let x = nu-called n m l nu eps shrinking budget cr h an z in
       nu-no-nan n m l (asFloat nu) (asFloat eps) (isOn shrinking) budget room (x .0) (x .1) (ofBits-fits binary64 nu)
@@ -90,7 +90,7 @@ module _ (n : ℕ) (m : List ℕ) (nu eps shrinking budget : ℕ) (cr h an : Lis
       let x = one-class-called n m nu eps shrinking budget cr h an z in
       one-class-box n m (asFloat nu) (asFloat eps) (isOn shrinking) budget room (x .0) (x .1) (ofBits-fits binary64 nu)
 
-  pub one-class-called-no-nan : (t i j : ℕ) → pairAfter oneClassK m room t ≡ Pair i j → Real (deltaAfter oneClassK m room t i j)
+  pub one-class-called-no-nan : (t i j : ℕ) → pairAfter oneClassK m room t ≡ Pair i j → NotNan (deltaAfter oneClassK m room t i j)
   one-class-called-no-nan =
       let x = one-class-called n m nu eps shrinking budget cr h an z in
       one-class-no-nan n m (asFloat nu) (asFloat eps) (isOn shrinking) budget room (x .0) (x .1) (ofBits-fits binary64 nu)

@@ -38,7 +38,7 @@ use Rattle.promises.proofs.Doubles.{Double, coefficient-doubled, served-own-dou
 use Rattle.promises.proofs.Home.{served-home}
 use Rattle.promises.proofs.Numbers.{general-sized-number, c-sized-number, nu-sized-number, one-class-sized-number}
 use Rattle.promises.proofs.Travel.{Served, served-travels}
-use Rattle.rounding.specs.Units.{Real}
+use Rattle.rounding.specs.Units.{NotNan}
 use Rattle.travel.specs.Home.{lastLeft}
 use Rattle.travel.specs.Travel.{Travelled}
 use Rattle.wire.specs.Wire.{digits, floatAt}
@@ -185,7 +185,7 @@ module _ (n : ℕ) (m l c a p : List ℕ) (nurule eps shrinking budget : ℕ) (c
     pub general-called-box : (t i : ℕ) → i < n → In b (weightAfter generalK m room t i)
     general-called-box = served-box (general-ran .2 .served) one-b
 
-    pub general-called-no-nan : (t i j : ℕ) → pairAfter generalK m room t ≡ Pair i j → Real (deltaAfter generalK m room t i j)
+    pub general-called-no-nan : (t i j : ℕ) → pairAfter generalK m room t ≡ Pair i j → NotNan (deltaAfter generalK m room t i j)
     general-called-no-nan = served-no-nan (general-ran .2 .served) one-b
 
     pub general-called-home-box : (s : ℕ) → s < n → In b (lastLeft (stepsTaken generalK m room budget) s (getD (floatsOf a n) s nan))

@@ -1,1 +1,1 @@
-// What the C functions hand out, in the words of the promises: theorems only, no code.
+// What the C functions hand out, in the words of the promises: definitions and theorems, no code.

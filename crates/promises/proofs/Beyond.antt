@@ -17,12 +17,12 @@ use Rattle.solver.specs.End.{trained}
 use Rattle.solver.specs.Run.{problemOf}
 use Rattle.solver.specs.declared.Given.{Given}
 use Rattle.standing.proofs.Rest.{started-behind}
-use Rattle.state.specs.Lists.{Problem, State}
+use Rattle.state.specs.Lists.{Problem, State, over}
 use Rattle.state.specs.Moving.{swapped, moved}
 use Rattle.state.proofs.Moves.{length-swapped, length-fields, fields-behind}
 use Rattle.trace.proofs.Kept.{pair-keeps, trained-keeps}
 use Rattle.trace.proofs.Rests.{same-reconstructed}
-use Rattle.update.specs.Update.{over, updatedState}
+use Rattle.update.specs.Update.{updatedState}
 use Rattle.update.proofs.Left.{length-updated, behind}
 use Rattle.promises.specs.Leaves.{Beyond}
 

@@ -32,7 +32,7 @@ use Rattle.solver.specs.Pass.{runs}
 use Rattle.solver.specs.Run.{problemOf}
 use Rattle.solver.specs.declared.Given.{Given}
 use Rattle.state.specs.Fields.{alpha, bound}
-use Rattle.state.specs.Lists.{Problem, State}
+use Rattle.state.specs.Lists.{Problem, State, over}
 use Rattle.state.specs.Moving.{moved}
 use Rattle.state.proofs.Moves.{source, source-below, length-fields, fields-at}
 use Rattle.trace.specs.Trace.{startOf}
@@ -40,7 +40,7 @@ use Rattle.trace.proofs.Kept.{pair-keeps, runs-keeps, trained-keeps}
 use Rattle.trace.proofs.Rests.{same-started, same-reconstructed}
 use Rattle.travel.proofs.Travel.{travelled-trained}
 use Rattle.update.specs.Pair.{pair, holding, iCapped, jCapped, iRaised, jRaised, differLow, differHigh, differed, agreeFirst, agreeSecond, agreed, stepped, pairOf}
-use Rattle.update.specs.Update.{over, pairAt, updatedState}
+use Rattle.update.specs.Update.{pairAt, updatedState}
 use Rattle.update.specs.declared.Pair.{Pair}
 use Rattle.update.proofs.Left.{length-updated, alpha-i, alpha-j, alpha-other}
 use Rattle.promises.specs.Fit.{Fit, startFrom, rOf, ownWeight, weightAfter}

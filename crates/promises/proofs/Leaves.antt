@@ -28,7 +28,7 @@ use Rattle.judge.proofs.Lengths.{room-of}
 use Rattle.kernel.specs.declared.Kind.the-variants.{TwoClass}
 use Rattle.lists.proofs.Later.{prefix-later}
 use Rattle.lists.proofs.Prefix.{prefix-length, filled-at}
-use Rattle.readings.specs.Order.{crateReading, homeReading, weightIn, Within}
+use Rattle.readings.specs.Order.{crateReading, homeReading, weightIn, NamesSamples}
 use Rattle.readings.proofs.Order.{length-gathered, length-scattered, crate-after, home-after}
 use Rattle.retired.specs.Entry.{standsIn, kept, answeredOver, fittedOver, retiredSized, retiredOf}
 use Rattle.solver.specs.Run.{Full}
@@ -107,7 +107,7 @@ module _ (n : ℕ) (d : Lent) (s : State) (rest : Scratch n (scratchOf d) s)
 crate-beyond : (n : ℕ) (order : List ℕ) (w : ℕ → Float) (t : List Float) → Beyond nan n t (crateReading n order w t)
 crate-beyond n order w t = record { long = length-gathered order w t n; at = λ j h. crate-after nan order w t n j h }
 
-home-beyond : (n : ℕ) (order : List ℕ) (w : ℕ → Float) (t : List Float) → Within n order → Beyond nan n t (homeReading n order w t)
+home-beyond : (n : ℕ) (order : List ℕ) (w : ℕ → Float) (t : List Float) → NamesSamples n order → Beyond nan n t (homeReading n order w t)
 home-beyond n order w t v = record { long = length-scattered order w t n; at = λ j h. home-after nan order w t n j v h }
 
 finished-beyond : (how : Finish) (l : List ℕ) (r : Float) (t : List Float) (n : ℕ) → Beyond nan n t (finishedTo how l r t n)
@@ -123,7 +123,7 @@ module _ {k : Fit} {m : List ℕ} {budget : ℕ} {d : Lent} {o : Whole} (v : Ser
   abbrev w : Full
   w = runOf k m d budget
 
-  within : Within (g .n) (w .state .numbers)
+  within : NamesSamples (g .n) (w .state .numbers)
   within = travelled-trained g m (k .ceilings) budget (startFrom k m d) (ready-start v) (fresh-start v) .order .within
 
   settled-leaves : (b : Bool) → Leaves (g .n) d (closedWith (g .n) (w .state) (settledBy b g (k .how) (k .labels) budget w (d .crate) (d .home)))
@@ -192,7 +192,7 @@ over-leaves stands g m l c a p budget d f u y =
     let weights = weightIn (g .n) (w .state .floats) in
     let order = trained-order stands g m c budget s in
     let long = length-numbers (g .n) (d .numbers) (g .n) in
-    let inside : Within (g .n) (w .state .numbers) =
+    let inside : NamesSamples (g .n) (w .state .numbers) =
     record { long = rw (order, long) (omega arith); below = λ k h. rw (order, sample-loaded (g .n) (d .numbers) u (g .n) k (omega arith) h) h }
     in
     after-run (g .n) d (scratchOf d) (scratch-refl (g .n) (scratchOf d)) f u y _ refl (λ q i e. absurd (refused-apart q i _ (sym e)))

@@ -8,9 +8,9 @@ use lib.Ieee.{Float, binary64, nan, ofBits, toBits}
 use Rattle.recorded.specs.Record.{wordOf}
 
 -- x and y are the same at each of the first m places
-unfoldable pub agree : (ℕ → ℕ) → (ℕ → ℕ) → ℕ → Bool
-agree x y zero = true
-agree x y (suc k) = agree x y k && eqb (x k) (y k)
+unfoldable pub sameBelow : (ℕ → ℕ) → (ℕ → ℕ) → ℕ → Bool
+sameBelow x y zero = true
+sameBelow x y (suc k) = sameBelow x y k && eqb (x k) (y k)
 
 abbrev pub patternIn : List Float → ℕ → ℕ
 patternIn f k = toBits binary64 (getD f k nan)

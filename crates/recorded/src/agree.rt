@@ -2,7 +2,7 @@
 ghost use mathlib.Core.Path.{_≡_};
 ghost use Prim.Native.Nat.{_+_, _≤_, _<_};
 ghost use lib.ListN.{length};
-ghost use Rattle.recorded.specs.Agree.{agree, patternIn, numberIn, wordFrom, looseIn, looseFrom, markOf, byteMarkOf, floatMarksTo, marksTo, leftOf, readingOf, looseOf};
+ghost use Rattle.recorded.specs.Agree.{sameBelow, patternIn, numberIn, wordFrom, looseIn, looseFrom, markOf, byteMarkOf, floatMarksTo, marksTo, leftOf, readingOf, looseOf};
 use crate::layout::word;
 
 fn mark(k: usize) -> u64
@@ -58,7 +58,7 @@ fn byte_left(used: usize, k: usize) -> u8
 
 // Whether the first used floats are +0 and the others as they were marked.
 pub fn floats_left(f: &[f64], used: usize) -> bool
-    ensures { λ r. ⌜ r ≡ agree (patternIn (now (f .entry))) (leftOf markOf used) (length (now (f .entry))) ⌝ }
+    ensures { λ r. ⌜ r ≡ sameBelow (patternIn (now (f .entry))) (leftOf markOf used) (length (now (f .entry))) ⌝ }
 {
     let n = f.len();
     let mut same = true;
@@ -71,7 +71,7 @@ pub fn floats_left(f: &[f64], used: usize) -> bool
 }
 
 pub fn numbers_left(u: &[u64], used: usize) -> bool
-    ensures { λ r. ⌜ r ≡ agree (numberIn (now (u .entry))) (leftOf markOf used) (length (now (u .entry))) ⌝ }
+    ensures { λ r. ⌜ r ≡ sameBelow (numberIn (now (u .entry))) (leftOf markOf used) (length (now (u .entry))) ⌝ }
 {
     let n = u.len();
     let mut same = true;
@@ -84,7 +84,7 @@ pub fn numbers_left(u: &[u64], used: usize) -> bool
 }
 
 pub fn bytes_left(y: &[u8], used: usize) -> bool
-    ensures { λ r. ⌜ r ≡ agree (numberIn (now (y .entry))) (leftOf byteMarkOf used) (length (now (y .entry))) ⌝ }
+    ensures { λ r. ⌜ r ≡ sameBelow (numberIn (now (y .entry))) (leftOf byteMarkOf used) (length (now (y .entry))) ⌝ }
 {
     let n = y.len();
     let mut same = true;
@@ -109,7 +109,7 @@ fn reading(b: &[u8], at: usize, n: usize, k: usize) -> u64
 // Whether a reading has the n words from word at on in its first places, and the others are as they were marked.
 pub fn reading_told(d: &[f64], b: &[u8], at: usize, n: usize) -> bool
     requires { ⌜ (at ≤ 300000) × (n ≤ 512) ⌝ }
-    ensures { λ r. ⌜ r ≡ agree (patternIn (now (d .entry))) (readingOf (now (b .entry)) at n) (length (now (d .entry))) ⌝ }
+    ensures { λ r. ⌜ r ≡ sameBelow (patternIn (now (d .entry))) (readingOf (now (b .entry)) at n) (length (now (d .entry))) ⌝ }
 {
     let m = d.len();
     let mut same = true;
@@ -124,7 +124,7 @@ pub fn reading_told(d: &[f64], b: &[u8], at: usize, n: usize) -> bool
 // Whether the n words from word at on are those that follow them.
 pub fn twice(b: &[u8], at: usize, n: usize) -> bool
     requires { ⌜ (at ≤ 300000) × (n ≤ 512) ⌝ }
-    ensures { λ r. ⌜ r ≡ agree (wordFrom (now (b .entry)) at) (wordFrom (now (b .entry)) (at + n)) n ⌝ }
+    ensures { λ r. ⌜ r ≡ sameBelow (wordFrom (now (b .entry)) at) (wordFrom (now (b .entry)) (at + n)) n ⌝ }
 {
     let mut same = true;
     for k in 0..n {
@@ -148,7 +148,7 @@ pub fn loose(z: u64, i: usize, w: u64) -> u64
 // Whether the nine words of an answer are those from word at on. z says whether the run met zeros of different sign.
 pub fn answer_told(a: &[u64], b: &[u8], at: usize, z: u64) -> bool
     requires { ⌜ (at ≤ 300000) × (9 ≤ length (now a)) ⌝ }
-    ensures { λ r. ⌜ r ≡ agree (looseIn z (now (a .entry))) (looseFrom z (now (b .entry)) at) 9 ⌝ }
+    ensures { λ r. ⌜ r ≡ sameBelow (looseIn z (now (a .entry))) (looseFrom z (now (b .entry)) at) 9 ⌝ }
 {
     let mut same = true;
     for k in 0..9 {

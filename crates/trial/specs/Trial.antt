@@ -3,8 +3,9 @@ use Prim.Native.Nat.{ℕ, _+_, _*_}
 use mathlib.Core.Bool.{Bool, not, cond}
 use mathlib.Core.List.{List}
 use lib.Dec.{eqb, ltb}
-use lib.Ieee.{Float, binary64, ofBits}
+use lib.Ieee.{Float}
 use lib.ListN.{set}
+use Rattle.alpha.specs.Weight as Weight
 use Rattle.kernel.specs.declared.Kind.the-variants.{TwoClass}
 use Rattle.rho.specs.Rho.{levelBy}
 use Rattle.rho.specs.declared.Level.{Level}
@@ -20,12 +21,12 @@ codeOf Going = 0
 codeOf Done = 1
 codeOf Refused = 2
 
-abbrev pub givenOf : ℕ → ℕ → ℕ → Float → Given
-givenOf n nu shrinking eps = record {
+abbrev pub trialGiven : ℕ → ℕ → ℕ → Float → Given
+trialGiven n nu shrinking eps = record {
   n = n;
   side = n;
   kind = TwoClass;
-  floor = ofBits binary64 0x3ddb_7cdf_d9d7_bdbb;
+  floor = Weight.floor;
   eps = eps;
   shrinking = not (eqb shrinking 0);
   nu = not (eqb nu 0);

@@ -8,7 +8,8 @@ ghost use lib.ListN.{length};
 ghost use Rattle.solver.specs.End.{trained};
 ghost use Rattle.solver.specs.Run.{problemOf};
 ghost use Rattle.state.specs.Lists.{State, state, Ready};
-ghost use Rattle.trial.specs.Trial.{codeOf, givenOf, codedOf, putOf, outOf};
+ghost use Rattle.trial.specs.Trial.{codeOf, trialGiven, codedOf, putOf, outOf};
+use alpha::Alpha;
 use kernel::Kind;
 use rho::Level;
 use solver::Given;
@@ -61,19 +62,19 @@ pub extern "C" fn trial_run(
     eps: f64,
     budget: usize,
 ) -> u64
-    requires { ⌜ (Ready (problemOf (givenOf n nu shrinking eps) (now m)) (state (now f) (now u) (now y))) × (n ≤ length (now b)) × (budget ≤ 10000000) × (1 ≤ n)
+    requires { ⌜ (Ready (problemOf (trialGiven n nu shrinking eps) (now m)) (state (now f) (now u) (now y))) × (n ≤ length (now b)) × (budget ≤ 10000000) × (1 ≤ n)
         × (3 ≤ length (now out)) ⌝ }
     ensures lists { λ _. ⌜ _≡_ {A = State} (state (now (f .exit)) (now (u .exit)) (now (y .exit)))
-        (trained (givenOf n nu shrinking eps) (now (m .entry)) (now (b .entry)) budget (state (now (f .entry)) (now (u .entry)) (now (y .entry))) .state) ⌝ }
-    ensures coded { λ c. ⌜ c ≡ codedOf (trained (givenOf n nu shrinking eps) (now (m .entry)) (now (b .entry)) budget (state (now (f .entry)) (now (u .entry)) (now (y .entry))) .run) ⌝ }
+        (trained (trialGiven n nu shrinking eps) (now (m .entry)) (now (b .entry)) budget (state (now (f .entry)) (now (u .entry)) (now (y .entry))) .state) ⌝ }
+    ensures coded { λ c. ⌜ c ≡ codedOf (trained (trialGiven n nu shrinking eps) (now (m .entry)) (now (b .entry)) budget (state (now (f .entry)) (now (u .entry)) (now (y .entry))) .run) ⌝ }
     ensures out { λ _. ⌜ now (out .exit) ≡ outOf (not (eqb nu 0)) n (now (out .entry))
-        (trained (givenOf n nu shrinking eps) (now (m .entry)) (now (b .entry)) budget (state (now (f .entry)) (now (u .entry)) (now (y .entry)))) ⌝ }
+        (trained (trialGiven n nu shrinking eps) (now (m .entry)) (now (b .entry)) budget (state (now (f .entry)) (now (u .entry)) (now (y .entry)))) ⌝ }
 {
     let g = Given {
         n,
         side: n,
         kind: Kind::TwoClass,
-        floor: 1e-10,
+        floor: Alpha::CURVATURE_FLOOR,
         eps,
         shrinking: shrinking != 0,
         nu: nu != 0,

@@ -107,8 +107,9 @@ impl Default for Options {
 /// Why an accepted run ended.
 #[derive(Clone, Copy, Debug, PartialEq, Eq, Hash)]
 pub enum ExitReason {
-    /// No pair is left that breaks the conditions by eps or more; with shrinking on: among the samples still active, by the gradients as
-    /// they are kept.
+    /// Over the active samples whose gradient is a number, the sum of the largest rise and the largest fall is below eps, or is not
+    /// above 0 (NaN, too); under the nu rule so is each label's. With shrinking off all are active but the retired; with it on, the
+    /// gradients are those that are kept.
     Threshold,
     /// The budget ran out.
     Iterations,

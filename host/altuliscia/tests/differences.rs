@@ -75,6 +75,27 @@ fn the_two_readings_part() {
 }
 
 #[test]
+fn infinite_gradients_end_at_the_threshold() {
+    let large = 2f64.powi(1000);
+    let general = General {
+        problem: Problem {
+            matrix: &[large; 4],
+            labels: &[true, false],
+        },
+        ceilings: &[large; 2],
+        alphas: &[2f64.powi(24), 0.0],
+        linear: &[0.0; 2],
+        nu_rule: false,
+    };
+    // the gradients are infinity and minus infinity, the sum of the two extremes is NaN
+    let answer = fit_general(&general, &options(false)).unwrap();
+    let ended = (answer.iterations, answer.reason);
+    assert_eq!(ended, (0, ExitReason::Threshold));
+    assert_eq!((answer.home[0], answer.home[1]), (2f64.powi(24), 0.0));
+    assert_eq!(answer.rho, f64::INFINITY);
+}
+
+#[test]
 fn an_infinite_r_leaves_zeros_and_a_nan() {
     let problem = Problem {
         matrix: &[1.0, 0.0, 0.0, 1.0],

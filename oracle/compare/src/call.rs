@@ -219,12 +219,6 @@ impl Call {
         for (k, word) in fields.into_iter().enumerate() {
             self.answer.put(k, word);
         }
-        let got = self.answer.words(3)[2];
-        let zeros = |x: u64| x << 1 == 0;
-        // Rust leaves the sign of such a zero open
-        if answer.zero_pair && zeros(fields[2]) && zeros(got) {
-            self.answer.put(2, got);
-        }
     }
 
     /// Where the call's doing parts from what it must be, in a word.

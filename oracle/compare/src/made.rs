@@ -19,13 +19,13 @@ impl Made {
     /// Makes the call, compares, and hands back what was expected.
     pub fn call(&mut self, seed: u64, call: &mut Call) -> Answer {
         let (answer, differs) = call.compare();
-        self.reached.add(&call.p, &answer);
+        let zeros = self.reached.add(&call.p, &answer);
         self.short_answer += u64::from(call.answer.len < ANSWER);
         self.long_answer += u64::from(call.answer.len > ANSWER);
         self.odd += u64::from(call.matrix.is_odd() || call.home.is_odd() || call.answer.is_odd());
         self.null += u64::from(call.matrix.null || call.home.null || call.answer.null);
         self.large += u64::from(answer.accepted().is_some() && call.p.n >= 64);
-        self.tell(seed, call, differs);
+        self.tell(seed, call, differs.or(zeros.as_deref()));
         answer
     }
 
@@ -40,8 +40,7 @@ impl Made {
 
     /// Every count with its name, for calls of these entries that can have these refusals.
     pub fn counts(&self, entries: &[Entry], refusals: &[usize]) -> Vec<(u64, String)> {
-        let zeros = "compared but for the sign of a zero rho";
-        let mut all = self.reached.counts(entries, refusals, zeros);
+        let mut all = self.reached.counts(entries, refusals);
         let rest = [
             (self.large, "accepted with n of 64 to 512"),
             (self.odd, "with a list at an odd address"),

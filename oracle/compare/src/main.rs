@@ -8,6 +8,7 @@ mod reached;
 mod recorded;
 mod retired;
 mod trial;
+mod zeros;
 
 use std::process::ExitCode;
 
@@ -22,10 +23,12 @@ compare retired FIRST LAST
     function where nobody is retired: the same bytes must be written
 compare recorded FILE
     the proved run by itself, on the recorded general problems: order and weights by position, rho, r, obj, iterations, reason,
-    refusal 11, and the pair and weights of each pass that is recorded; and the C function on those with retired samples
+    refusal 11, and after each pass that is recorded the weights of its pair; and the C function on those with retired samples
 compare captions FILE..
     the C functions on real captions: the first 64, 128, 256 and 512 of each file of captions/make.py, shrinking off and on
-What the runs reached is counted. The exit status is 1 where one differs, or where 5000 seeds or more didn't reach everything.";
+Everything is compared bit for bit with the Rust whose max and min keep the first of two zeros of different sign. Runs that met such
+zeros are made again by the Rust that keeps the second, and by its own max and min: all but the sign of a zero rho under the C rule
+must stay. What the runs reached is counted. The exit status is 1 where one differs, or where 5000 seeds or more didn't reach everything.";
 
 fn main() -> ExitCode {
     let words: Vec<String> = std::env::args().skip(1).collect();

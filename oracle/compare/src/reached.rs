@@ -1,4 +1,5 @@
 //! What a set of compared runs reached.
+use crate::zeros::Zeros;
 use oracle::marks::{is_own_inverse, readings_differ};
 use oracle::problem::{Entry, Problem, LAST_REFUSAL};
 use oracle::run::{Answer, Reason};
@@ -19,11 +20,14 @@ pub struct Reached {
     unshrunk: u64,
     turned: u64,
     differing: u64,
-    zero_pairs: u64,
+    zeros: Zeros,
 }
 
 impl Reached {
-    pub fn add(&mut self, p: &Problem, answer: &Answer) {
+    /// Counts a run. Where it met zeros of different sign, the Rust with the others kept must be the same but for rho's sign: else
+    /// the field that parts.
+    #[must_use]
+    pub fn add(&mut self, p: &Problem, answer: &Answer) -> Option<String> {
         self.runs += 1;
         self.by_entry[p.entry.number() as usize] += 1;
         if let Some(r) = answer.refusal() {
@@ -43,12 +47,11 @@ impl Reached {
         self.first_branch += u64::from(e.first_branch > 0);
         self.second_branch += u64::from(e.second_branch > 0);
         self.unshrunk += u64::from(e.unshrinks > 0);
-        self.zero_pairs += u64::from(answer.zero_pair);
+        self.zeros.add(p, answer)
     }
 
-    /// Every count with its name; of entries and of refusals only those that the comparison can have. `zeros` says how runs that
-    /// met zeros of different sign were compared.
-    pub fn counts(&self, entries: &[Entry], refusals: &[usize], zeros: &str) -> Vec<(u64, String)> {
+    /// Every count with its name; of entries and of refusals only those that the comparison can have.
+    pub fn counts(&self, entries: &[Entry], refusals: &[usize]) -> Vec<(u64, String)> {
         let mut all = vec![(self.runs, "runs".to_string())];
         for entry in entries {
             let count = self.by_entry[entry.number() as usize];
@@ -76,8 +79,10 @@ impl Reached {
             ]);
         }
         all.extend(rest.iter().map(|(count, name)| (*count, name.to_string())));
-        let name = format!("met zeros of different sign: {zeros}");
-        all.push((self.zero_pairs, name));
+        let Zeros { met, second, own } = self.zeros;
+        all.push((met, "met zeros of different sign".to_string()));
+        let name = format!("of them a zero rho of the other sign where Rust keeps the second; {own} by its own max and min");
+        all.push((second, name));
         all
     }
 }

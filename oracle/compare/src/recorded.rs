@@ -1,10 +1,11 @@
 //! The recorded answers through the proved run, by position and pass for pass; those with retired samples through the C function.
 use crate::call::{Call, Spoiled};
 use crate::trial::{run, Ran};
+use crate::zeros::Zeros;
 use oracle::problem::{Entry, Problem};
 use oracle::random::Random;
 use oracle::record::{read, Told};
-use oracle::run::canonical;
+use oracle::run::{canonical, solve};
 
 #[derive(Default)]
 struct Counts {
@@ -14,7 +15,7 @@ struct Counts {
     nu_rule: u64,
     refused: u64,
     turned: u64,
-    zero_pairs: u64,
+    zeros: Zeros,
     passes: u64,
     retired: u64,
     called: u64,
@@ -29,7 +30,9 @@ impl Counts {
         println!("by the nu rule                   {}", self.nu_rule);
         println!("refused with 11                  {}", self.refused);
         println!("order not its own inverse        {}", self.turned);
-        println!("zeros of different sign          {}", self.zero_pairs);
+        println!("zeros of different sign          {}", self.zeros.met);
+        println!("sign of rho where second kept    {}", self.zeros.second);
+        println!("sign of rho by Rust's own        {}", self.zeros.own);
         println!("passes compared one by one       {}", self.passes);
         println!("with retired samples             {}", self.retired);
         println!("of them called                   {}", self.called);
@@ -39,13 +42,6 @@ impl Counts {
 
 fn words(list: &[f64]) -> Vec<u64> {
     list.iter().map(|x| canonical(*x)).collect()
-}
-
-/// Where zeros of different sign were met, a zero rho may have either sign.
-fn same_rho(told: &Told, rho: f64) -> bool {
-    let zero = |word: u64| word << 1 == 0;
-    let word = canonical(rho);
-    told.rho == word || (told.zero_pair == 1 && zero(told.rho) && zero(word))
 }
 
 /// Where the end of the run parts from the record, in a word.
@@ -62,7 +58,7 @@ fn end_differs(p: &Problem, told: &Told, ran: &Ran) -> Option<&'static str> {
         (ran.refused, "refused"),
         (ran.numbers[..n] != told.order[..], "order"),
         (words(&ran.floats[2 * n..3 * n]) != told.weights, "weights"),
-        (!same_rho(told, ran.out[0]), "rho"),
+        (canonical(ran.out[0]) != told.rho, "rho"),
         (told.r_present == 1 && canonical(ran.out[1]) != told.r, "r"),
         (canonical(ran.out[2]) != told.obj, "obj"),
         (ran.iterations != told.iterations, "iterations"),
@@ -77,7 +73,7 @@ fn end_differs(p: &Problem, told: &Told, ran: &Ran) -> Option<&'static str> {
         .map(|(_, name)| name)
 }
 
-/// The first pass whose pair doesn't have the recorded weights, if there is one.
+/// The first pass after which the recorded pair doesn't have the recorded weights, if there is one.
 fn pass_differs(p: &Problem, told: &Told, counts: &mut Counts) -> Option<u64> {
     let n = p.n as usize;
     for (k, step) in told.trace.iter().enumerate() {
@@ -116,9 +112,11 @@ fn call(k: usize, p: &Problem, told: &Told, c: &mut Counts) {
     c.called += 1;
     let g = &mut Random::new(k as u64);
     let mut call = Call::new(g, p.clone(), Spoiled::Nothing);
-    let (_, differs) = call.compare();
-    let parted = told.zero_pair == 0 && call.written(told.home.len()) != written(told);
-    if let Some(what) = differs.or(parted.then_some("the record")) {
+    let (answer, differs) = call.compare();
+    let zeros = c.zeros.add(p, &answer);
+    let parted = call.written(told.home.len()) != written(told);
+    let differs = differs.or(parted.then_some("the record"));
+    if let Some(what) = differs.or(zeros.as_deref()) {
         c.differ += 1;
         println!("record {k}, retired: {what}");
     }
@@ -142,11 +140,11 @@ pub fn compare(path: &str) -> Option<u64> {
         c.shrinking += u64::from(p.shrinking);
         c.nu_rule += u64::from(p.nu_rule);
         c.refused += u64::from(told.refusal == 11);
-        c.zero_pairs += told.zero_pair;
         c.turned += u64::from(
             (0..told.order.len()).any(|i| told.order[told.order[i] as usize] != i as u64),
         );
-        if let Some(what) = end_differs(p, told, &run(p)) {
+        let zeros = c.zeros.add(p, &solve(p, false));
+        if let Some(what) = end_differs(p, told, &run(p)).or(zeros.as_deref()) {
             c.differ += 1;
             println!("record {k}: {what}");
         } else if let Some(pass) = pass_differs(p, told, &mut c) {

@@ -145,16 +145,13 @@ pub fn compare(seed: u64, count: u64) -> u64 {
             p.budget = budget;
             let answer = solve(&p, false);
             let ran = run(&p);
-            reached.add(&p, &answer);
-            if answer.zero_pair {
-                continue;
-            }
-            if let Some(what) = differs(&p, &answer, &ran) {
+            let zeros = reached.add(&p, &answer);
+            if let Some(what) = differs(&p, &answer, &ran).or(zeros.as_deref()) {
                 parted += 1;
                 println!("seed {k}, budget {budget}: {what}");
             }
         }
     }
-    let counts = reached.counts(&[Entry::General], &[11], "left out");
+    let counts = reached.counts(&[Entry::General], &[11]);
     tell(&counts, count, parted)
 }

@@ -2,8 +2,8 @@
 //!
 //! `max` and `min` are Rust's own, with one addition. Rust leaves open which
 //! zero comes out where both operands are zeros of different sign. Here the
-//! first operand comes out, and the meeting is noted, so that a run that had
-//! one can be told apart.
+//! first operand comes out unless [`keeping`] says otherwise, and the meeting
+//! is noted, so that a run that had one can be told apart.
 
 use num_traits::{NumCast, ToPrimitive};
 use std::cell::Cell;
@@ -43,8 +43,26 @@ pub trait Float:
     }
 }
 
+/// Which of two zeros of different sign comes out of a `max` or `min`.
+#[derive(Clone, Copy, Debug, PartialEq, Eq)]
+pub enum Kept {
+    First,
+    Second,
+    /// Whatever Rust's own answers on this machine.
+    Own,
+}
+
 thread_local! {
     static ZERO_PAIR: Cell<bool> = const { Cell::new(false) };
+    static KEPT: Cell<Kept> = const { Cell::new(Kept::First) };
+}
+
+/// Runs `f` with that choice on this thread, and goes back to the first.
+pub fn keeping<T>(kept: Kept, f: impl FnOnce() -> T) -> T {
+    KEPT.with(|k| k.set(kept));
+    let result = f();
+    KEPT.with(|k| k.set(Kept::First));
+    result
 }
 
 /// Forgets what this thread has noted of zero pairs.
@@ -58,12 +76,18 @@ pub fn met_zero_pair() -> bool {
     ZERO_PAIR.with(Cell::get)
 }
 
-fn zero_pair(a: f64, b: f64) -> bool {
+/// What comes out of two zeros of different sign, where that isn't Rust's own.
+fn zero_kept(a: f64, b: f64) -> Option<f64> {
     let is = a == 0.0 && b == 0.0 && a.is_sign_negative() != b.is_sign_negative();
-    if is {
-        ZERO_PAIR.with(|met| met.set(true));
+    if !is {
+        return None;
     }
-    is
+    ZERO_PAIR.with(|met| met.set(true));
+    match KEPT.with(Cell::get) {
+        Kept::First => Some(a),
+        Kept::Second => Some(b),
+        Kept::Own => None,
+    }
 }
 
 impl Float for f64 {
@@ -88,18 +112,10 @@ impl Float for f64 {
     }
 
     fn max(self, other: f64) -> f64 {
-        if zero_pair(self, other) {
-            self
-        } else {
-            f64::max(self, other)
-        }
+        zero_kept(self, other).unwrap_or_else(|| f64::max(self, other))
     }
 
     fn min(self, other: f64) -> f64 {
-        if zero_pair(self, other) {
-            self
-        } else {
-            f64::min(self, other)
-        }
+        zero_kept(self, other).unwrap_or_else(|| f64::min(self, other))
     }
 }

@@ -3,23 +3,23 @@ use mathlib.Core.Path.{_≡_, refl}
 use native.Mathlib.Numerals.{add-one}
 use native.Mathlib.Omega.{arith}
 use lib.ListN.{length}
-use Rattle.recorded.specs.Agree.{agree, numberIn, leftOf, markOf}
+use Rattle.recorded.specs.Agree.{sameBelow, numberIn, leftOf, markOf}
 use borrow.Author.Needs.{needs}
 use Rattle.recorded.proofs.agree.numbers_left.Statement.{statement}
 use Rattle.recorded.proofs.agree.numbers_left.Tie as tie
 
 abbrev Inv-loop : tie.InvT-loop
-Inv-loop u used n same₀ k₀ same k = (k ≤ n) × (same ≡ agree (numberIn u) (leftOf markOf used) k)
+Inv-loop u used n same₀ k₀ same k = (k ≤ n) × (same ≡ sameBelow (numberIn u) (leftOf markOf used) k)
 
 abbrev μ-loop : tie.MeasureT-loop
 μ-loop u used n same₀ k₀ same k = n - k
 
 loop-holds : tie.Need-loop-holds Inv-loop μ-loop
-unfolding agree
+unfolding sameBelow
 loop-holds c = (search needs, refl)
 
 loop-again : tie.Need-loop-again Inv-loop μ-loop
-unfolding agree
+unfolding sameBelow
 loop-again c = (search needs, rw (add-one, ← c .before .before .before .loop .inv .1, ← c .left .ensures))
 
 returns : tie.Need-returns Inv-loop μ-loop

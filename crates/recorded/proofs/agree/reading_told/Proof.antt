@@ -3,23 +3,23 @@ use mathlib.Core.Path.{_≡_, refl}
 use native.Mathlib.Numerals.{add-one}
 use native.Mathlib.Omega.{arith}
 use lib.ListN.{length}
-use Rattle.recorded.specs.Agree.{agree, patternIn, readingOf}
+use Rattle.recorded.specs.Agree.{sameBelow, patternIn, readingOf}
 use borrow.Author.Needs.{needs}
 use Rattle.recorded.proofs.agree.reading_told.Statement.{statement}
 use Rattle.recorded.proofs.agree.reading_told.Tie as tie
 
 abbrev Inv-loop : tie.InvT-loop
-Inv-loop d b at n m same₀ k₀ same k = (k ≤ m) × (same ≡ agree (patternIn d) (readingOf b at n) k)
+Inv-loop d b at n m same₀ k₀ same k = (k ≤ m) × (same ≡ sameBelow (patternIn d) (readingOf b at n) k)
 
 abbrev μ-loop : tie.MeasureT-loop
 μ-loop d b at n m same₀ k₀ same k = m - k
 
 loop-holds : tie.Need-loop-holds Inv-loop μ-loop
-unfolding agree
+unfolding sameBelow
 loop-holds c = (search needs, refl)
 
 loop-again : tie.Need-loop-again Inv-loop μ-loop
-unfolding agree
+unfolding sameBelow
 loop-again c = (search needs, rw (add-one, ← c .before .before .before .before .loop .inv .1, ← c .before .pattern-of .ensures, ← c .reading .ensures))
 
 returns : tie.Need-returns Inv-loop μ-loop
