@@ -24,9 +24,10 @@ use Rattle.solver.specs.Run.{problemOf}
 use Rattle.solver.specs.declared.Given.{Given}
 use Rattle.state.specs.Fields.{gradient, diagonal, row, positive}
 use Rattle.state.specs.Lists.{Problem, State}
-use Rattle.trace.specs.Rule.{Rises, Falls, NoPair, Quiet}
+use Rattle.trace.specs.Rule.{Rises, Falls, NoPair}
 use Rattle.trace.proofs.Rule.{sumsBy, sum-by}
 use Rattle.wire.specs.Wire.{floatAt}
+use Rattle.boxrun.specs.Quiet.{Quiet}
 use Rattle.boxrun.proofs.Owned.{Owned, entry-diagonal, entry-row}
 
 -- a sum with minus infinity isn't above 0

@@ -22,7 +22,7 @@ use Rattle.boxed.specs.Range.{In}
 use Rattle.classification.specs.Entries.{fitted, decided, entered, generalSized, fitCSized, fitCOf, fitNuSized, fitNuOf, fitOneClassSized, fitOneClassOf}
 use Rattle.classification.proofs.Laws.{Usable, usable-general, usable-c, usable-nu, usable-one-class}
 use Rattle.extreme.specs.declared.Choice.the-variants.{Pair}
-use Rattle.hosted.specs.Hosted.{decodedTo, floatsOf, storedTo, room, Handed, handed, deliveredBy, delivered, turnedAway, hostedBy, freshPlaces, freshFloats, freshNumbers, freshBytes}
+use Rattle.hosted.specs.Hosted.{decodedTo, floatsOf, storedTo, room, Handed, handed, deliveredBy, delivered, turnedAway, hostedBy, freshPlaces, freshFloats, freshNumbers, freshBytes, answeredBy}
 use Rattle.hosted.proofs.Serves.{Serves, inputs-right, serves}
 use Rattle.judge.specs.Judge.{generalJudged, cJudged, nuJudged, oneClassJudged}
 use Rattle.judge.specs.Sizes.{sizes, Room}
@@ -59,20 +59,21 @@ turned-not number w cr h an = go (eqb number 0) refl
 
 -- ---- and not refused
 
-pub record Out (n : ℕ) (w : Whole) (cr h : List ℕ) (o : Handed) : Type 0 where
+pub record Out (n : ℕ) (w : Whole) (cr h an : List ℕ) (o : Handed) : Type 0 where
   pub answer : Answer
   pub accepted : w .out ≡ Accepted answer
+  pub told : o .answer ≡ answeredBy (Accepted answer) an
   pub crate : o .crate ≡ storedTo (w .left .crate) cr n
   pub home : o .home ≡ storedTo (w .left .home) h n
 
 pub delivered-out : (n : ℕ) (w : Whole) (cr h an : List ℕ) → ((number index : ℕ) → w .out ≡ Refused number index → 1 ≤ number)
-    → delivered n w cr h an .code ≡ 0 → Out n w cr h (delivered n w cr h an)
+    → delivered n w cr h an .code ≡ 0 → Out n w cr h an (delivered n w cr h an)
 unfolding delivered deliveredBy
 delivered-out n w cr h an some = go (w .out) refl
   where
     go : (o : Outcome) → w .out ≡ o → deliveredBy n o (w .left .crate) (w .left .home) cr h an .code ≡ 0
-        → Out n w cr h (deliveredBy n o (w .left .crate) (w .left .home) cr h an)
-    go (Accepted x) e z = record { answer = x; accepted = e; crate = refl; home = refl }
+        → Out n w cr h an (deliveredBy n o (w .left .crate) (w .left .home) cr h an)
+    go (Accepted x) e z = record { answer = x; accepted = e; told = refl; crate = refl; home = refl }
     go (Refused k i) e z = let p = some k i e in absurd (omega arith)
 
 -- ---- a fit over the call's own room
@@ -84,13 +85,14 @@ room-fits n m r = rw (length-replicate 512 Weight.zero, length-replicate 3584 We
 abbrev fitOver : Fit → List ℕ → ℕ → Whole
 fitOver k m budget = fitted (k .given) (k .how) m (k .labels) (k .ceilings) (k .weights) (k .terms) budget room
 
-record Ran (k : Fit) (m cr h : List ℕ) (budget : ℕ) (w : Whole) (o : Handed) : Type 0 where
-  served : Served k m budget room w
-  out : Out (k .given .n) w cr h o
-  crate-long : 8 * k .given .n ≤ length cr
-  home-long : 8 * k .given .n ≤ length h
+pub record Ran (k : Fit) (m cr h an : List ℕ) (budget : ℕ) (w : Whole) (o : Handed) : Type 0 where
+  pub served : Served k m budget room w
+  pub out : Out (k .given .n) w cr h an o
+  pub crate-long : 8 * k .given .n ≤ length cr
+  pub home-long : 8 * k .given .n ≤ length h
+  pub answer-long : 72 ≤ length an
 
-gives : {k : Fit} {m cr h : List ℕ} {budget : ℕ} {w : Whole} {o : Handed} → Ran k m cr h budget w o
+gives : {k : Fit} {m cr h an : List ℕ} {budget : ℕ} {w : Whole} {o : Handed} → Ran k m cr h an budget w o
     → ((s : ℕ) → s < k .given .n → Double (ownWeight k m room budget s)) → Gives k m budget o
 gives {k = k} {m = m} {cr = cr} {h = h} {w = w} r double = record {
   home = λ s g.
@@ -113,7 +115,7 @@ ran : (k : Fit) (m cr h an : List ℕ) (budget number : ℕ) (j : Judged) → k 
     → ((q index : ℕ) → decided j (fitOver k m budget) room .out ≡ Refused q index → 1 ≤ q)
     → hostedBy number (delivered (k .given .n) (decided j (fitOver k m budget) room) cr h an) cr h an .code ≡ 0
     → (number ≡ 0) × (j ≡ Fine)
-    × Ran k m cr h budget (decided j (fitOver k m budget) room) (hostedBy number (delivered (k .given .n) (decided j (fitOver k m budget) room) cr h an) cr h an)
+    × Ran k m cr h an budget (decided j (fitOver k m budget) room) (hostedBy number (delivered (k .given .n) (decided j (fitOver k m budget) room) cr h an) cr h an)
 ran k m cr h an budget number j square sized usable some z =
     let w = decided j (fitOver k m budget) room in
     let t = turned-not number (delivered (k .given .n) w cr h an) cr h an z in
@@ -127,6 +129,7 @@ ran k m cr h an budget number j square sized usable some z =
         out = rw (t .1) o;
         crate-long = v .crate;
         home-long = v .home;
+        answer-long = v .answer;
       },
     )
 
@@ -152,7 +155,7 @@ module _ (n : ℕ) (m l c a p : List ℕ) (nurule eps shrinking budget : ℕ) (c
   abbrev generalW : Whole
   generalW = generalSized n m l (floatsOf c n) (floatsOf a n) (floatsOf p n) (isOn nurule) (asFloat eps) (isOn shrinking) budget room
 
-  general-ran : (byteSizes n (generalInputs n l c a p) m cr h an ≡ 0) × (generalJudged n m l (floatsOf c n) (floatsOf a n) (floatsOf p n) (asFloat eps) budget ≡ Fine) × Ran generalK m cr h budget generalW (generalHost n m l c a p nurule eps shrinking budget cr h an)
+  pub general-ran : (byteSizes n (generalInputs n l c a p) m cr h an ≡ 0) × (generalJudged n m l (floatsOf c n) (floatsOf a n) (floatsOf p n) (asFloat eps) budget ≡ Fine) × Ran generalK m cr h an budget generalW (generalHost n m l c a p nurule eps shrinking budget cr h an)
   unfolding generalHost generalSized
   general-ran =
       ran generalK m cr h an budget (byteSizes n (generalInputs n l c a p) m cr h an) (generalJudged n m l (floatsOf c n) (floatsOf a n) (floatsOf p n) (asFloat eps) budget) refl
@@ -198,7 +201,7 @@ module _ (n : ℕ) (m l : List ℕ) (cpos cneg eps shrinking budget : ℕ) (cr h
   abbrev cW : Whole
   cW = fitCSized n m l (asFloat cpos) (asFloat cneg) (asFloat eps) (isOn shrinking) budget room
 
-  c-ran : (byteSizes n (eqb (length l) n) m cr h an ≡ 0) × (cJudged n m l (asFloat cpos) (asFloat cneg) (asFloat eps) budget ≡ Fine) × Ran cK m cr h budget cW (cHost n m l cpos cneg eps shrinking budget cr h an)
+  pub c-ran : (byteSizes n (eqb (length l) n) m cr h an ≡ 0) × (cJudged n m l (asFloat cpos) (asFloat cneg) (asFloat eps) budget ≡ Fine) × Ran cK m cr h an budget cW (cHost n m l cpos cneg eps shrinking budget cr h an)
   unfolding cHost fitCSized
   c-ran =
       ran cK m cr h an budget (byteSizes n (eqb (length l) n) m cr h an) (cJudged n m l (asFloat cpos) (asFloat cneg) (asFloat eps) budget) refl
@@ -231,7 +234,7 @@ module _ (n : ℕ) (m l : List ℕ) (nu eps shrinking budget : ℕ) (cr h an : L
   abbrev nuW : Whole
   nuW = fitNuSized n m l (asFloat nu) (asFloat eps) (isOn shrinking) budget room
 
-  nu-ran : (byteSizes n (eqb (length l) n) m cr h an ≡ 0) × (nuJudged n m l (asFloat nu) (asFloat eps) budget ≡ Fine) × Ran nuK m cr h budget nuW (nuHost n m l nu eps shrinking budget cr h an)
+  pub nu-ran : (byteSizes n (eqb (length l) n) m cr h an ≡ 0) × (nuJudged n m l (asFloat nu) (asFloat eps) budget ≡ Fine) × Ran nuK m cr h an budget nuW (nuHost n m l nu eps shrinking budget cr h an)
   unfolding nuHost fitNuSized
   nu-ran =
       ran nuK m cr h an budget (byteSizes n (eqb (length l) n) m cr h an) (nuJudged n m l (asFloat nu) (asFloat eps) budget) refl
@@ -260,7 +263,7 @@ module _ (n : ℕ) (m : List ℕ) (nu eps shrinking budget : ℕ) (cr h an : Lis
   abbrev oneClassW : Whole
   oneClassW = fitOneClassSized n m (asFloat nu) (asFloat eps) (isOn shrinking) budget room
 
-  one-class-ran : (byteSizes n true m cr h an ≡ 0) × (oneClassJudged n m (asFloat nu) (asFloat eps) budget ≡ Fine) × Ran oneClassK m cr h budget oneClassW (oneClassHost n m nu eps shrinking budget cr h an)
+  pub one-class-ran : (byteSizes n true m cr h an ≡ 0) × (oneClassJudged n m (asFloat nu) (asFloat eps) budget ≡ Fine) × Ran oneClassK m cr h an budget oneClassW (oneClassHost n m nu eps shrinking budget cr h an)
   unfolding oneClassHost fitOneClassSized
   one-class-ran =
       ran oneClassK m cr h an budget (byteSizes n true m cr h an) (oneClassJudged n m (asFloat nu) (asFloat eps) budget) refl

@@ -17,7 +17,7 @@ use Rattle.hosted.specs.Hosted.{handed, answeredBy, deliveredBy, delivered, tur
 use Rattle.hosted.proofs.Serves.{serves}
 use Rattle.promises.proofs.Beyond.{beyond-refl}
 use Rattle.wire.specs.Wire.{digits}
-use Rattle.handed.specs.Leaves.{Leaves}
+use Rattle.handed.specs.HandsBack.{HandsBack}
 use Rattle.handed.specs.Trains.{largest}
 use Rattle.handed.proofs.Numbers.{general-called-number, c-called-number, nu-called-number, one-class-called-number}
 use Rattle.handed.proofs.Retired.{retired-called-number}
@@ -29,7 +29,7 @@ first-word o an q e few long = word-at (wordsOf o) an 9 0 long (omega arith) ∙
 
 module _ (n : ℕ) (cr h an : List ℕ) where
   -- handed back with the result q: an answer that was written, and lists that were not
-  refused-leaves : (q i : ℕ) → q ≤ 13 → 72 ≤ length an → Leaves n cr h an (handed q cr h (answeredBy (Refused q i) an))
+  refused-leaves : (q i : ℕ) → q ≤ 13 → 72 ≤ length an → HandsBack n cr h an (handed q cr h (answeredBy (Refused q i) an))
   unfolding wordsOf
   refused-leaves q i few long = record {
     results = λ z. (refl, refl);
@@ -40,12 +40,12 @@ module _ (n : ℕ) (cr h an : List ℕ) where
     told = first-word (Refused q i) an q refl few;
   }
 
-  delivered-leaves : (w : Whole) → delivered n w cr h an .code ≤ 13 → 72 ≤ length an → Leaves n cr h an (delivered n w cr h an)
+  delivered-leaves : (w : Whole) → delivered n w cr h an .code ≤ 13 → 72 ≤ length an → HandsBack n cr h an (delivered n w cr h an)
   unfolding delivered deliveredBy wordsOf
   delivered-leaves w = go (w .out)
     where
       go : (o : Outcome) → deliveredBy n o (w .left .crate) (w .left .home) cr h an .code ≤ 13 → 72 ≤ length an
-          → Leaves n cr h an (deliveredBy n o (w .left .crate) (w .left .home) cr h an)
+          → HandsBack n cr h an (deliveredBy n o (w .left .crate) (w .left .home) cr h an)
       go (Refused q i) few long = refused-leaves q i few long
       go (Accepted x) few long = record {
         results = λ z. absurd (z refl);
@@ -56,11 +56,11 @@ module _ (n : ℕ) (cr h an : List ℕ) where
         told = first-word (Accepted x) an 0 refl (omega arith);
       }
 
-  away-leaves : (q : ℕ) → q ≤ 13 → Leaves n cr h an (handed q cr h (turnedAway q an))
+  away-leaves : (q : ℕ) → q ≤ 13 → HandsBack n cr h an (handed q cr h (turnedAway q an))
   unfolding turnedAway
   away-leaves q few = go (leb 72 (length an)) refl
     where
-      go : (b : Bool) → leb 72 (length an) ≡ b → Leaves n cr h an (handed q cr h (cond b (answeredBy (Refused q 0) an) an))
+      go : (b : Bool) → leb 72 (length an) ≡ b → HandsBack n cr h an (handed q cr h (cond b (answeredBy (Refused q 0) an) an))
       go true e = refused-leaves q 0 few (leb-true 72 (length an) e)
       go false e = record {
         results = λ z. (refl, refl);
@@ -73,12 +73,12 @@ module _ (n : ℕ) (cr h an : List ℕ) where
 
   -- by its sizes, or by its training
   hosted-leaves : (number : ℕ) (w : Whole) → (number ≡ 0 → 72 ≤ length an) → hostedBy number (delivered n w cr h an) cr h an .code ≤ 13
-      → Leaves n cr h an (hostedBy number (delivered n w cr h an) cr h an)
+      → HandsBack n cr h an (hostedBy number (delivered n w cr h an) cr h an)
   unfolding hostedBy
   hosted-leaves number w long = go (eqb number 0) refl
     where
       go : (b : Bool) → eqb number 0 ≡ b → cond b (delivered n w cr h an) (handed number cr h (turnedAway number an)) .code ≤ 13
-          → Leaves n cr h an (cond b (delivered n w cr h an) (handed number cr h (turnedAway number an)))
+          → HandsBack n cr h an (cond b (delivered n w cr h an) (handed number cr h (turnedAway number an)))
       go true e few = delivered-leaves w few (long (eqb-true number 0 e))
       go false e few = away-leaves number few
 
@@ -96,28 +96,28 @@ answer-long : (n : ℕ) (inputs : Bool) (m cr h an : List ℕ) → byteSizes n i
 answer-long n inputs m cr h an e = serves n inputs (length m) (length cr) (length h) (length an) e .answer
 
 pub general-called-leaves : (n : ℕ) (m l c a p : List ℕ) (nurule eps shrinking budget : ℕ) (cr h an : List ℕ)
-    → Leaves n cr h an (generalHost n m l c a p nurule eps shrinking budget cr h an)
+    → HandsBack n cr h an (generalHost n m l c a p nurule eps shrinking budget cr h an)
 unfolding generalHost
 general-called-leaves n m l c a p nurule eps shrinking budget cr h an =
     hosted-leaves n cr h an _ _ (answer-long n (generalInputs n l c a p) m cr h an) (few shrinking (general-called-number n m l c a p nurule eps shrinking budget cr h an))
 
-pub c-called-leaves : (n : ℕ) (m l : List ℕ) (cpos cneg eps shrinking budget : ℕ) (cr h an : List ℕ) → Leaves n cr h an (cHost n m l cpos cneg eps shrinking budget cr h an)
+pub c-called-leaves : (n : ℕ) (m l : List ℕ) (cpos cneg eps shrinking budget : ℕ) (cr h an : List ℕ) → HandsBack n cr h an (cHost n m l cpos cneg eps shrinking budget cr h an)
 unfolding cHost
 c-called-leaves n m l cpos cneg eps shrinking budget cr h an =
     hosted-leaves n cr h an _ _ (answer-long n (eqb (length l) n) m cr h an) (few shrinking (c-called-number n m l cpos cneg eps shrinking budget cr h an))
 
-pub nu-called-leaves : (n : ℕ) (m l : List ℕ) (nu eps shrinking budget : ℕ) (cr h an : List ℕ) → Leaves n cr h an (nuHost n m l nu eps shrinking budget cr h an)
+pub nu-called-leaves : (n : ℕ) (m l : List ℕ) (nu eps shrinking budget : ℕ) (cr h an : List ℕ) → HandsBack n cr h an (nuHost n m l nu eps shrinking budget cr h an)
 unfolding nuHost
 nu-called-leaves n m l nu eps shrinking budget cr h an =
     hosted-leaves n cr h an _ _ (answer-long n (eqb (length l) n) m cr h an) (few shrinking (nu-called-number n m l nu eps shrinking budget cr h an))
 
-pub one-class-called-leaves : (n : ℕ) (m : List ℕ) (nu eps shrinking budget : ℕ) (cr h an : List ℕ) → Leaves n cr h an (oneClassHost n m nu eps shrinking budget cr h an)
+pub one-class-called-leaves : (n : ℕ) (m : List ℕ) (nu eps shrinking budget : ℕ) (cr h an : List ℕ) → HandsBack n cr h an (oneClassHost n m nu eps shrinking budget cr h an)
 unfolding oneClassHost
 one-class-called-leaves n m nu eps shrinking budget cr h an =
     hosted-leaves n cr h an _ _ (answer-long n true m cr h an) (few shrinking (one-class-called-number n m nu eps shrinking budget cr h an))
 
 pub retired-called-leaves : (n : ℕ) (m l c a p r : List ℕ) (nurule eps shrinking budget : ℕ) (t cr h an : List ℕ)
-    → Leaves n cr h an (retiredHost n m l c a p r nurule eps shrinking budget t cr h an)
+    → HandsBack n cr h an (retiredHost n m l c a p r nurule eps shrinking budget t cr h an)
 unfolding retiredHost
 retired-called-leaves n m l c a p r nurule eps shrinking budget t cr h an =
     hosted-leaves n cr h an _ _ (answer-long n (generalInputs n l c a p && eqb (length r) n && tuningKnown t) m cr h an)

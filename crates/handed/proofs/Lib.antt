@@ -4,3 +4,4 @@ pub mod Called
 pub mod Numbers
 pub mod Retired
 pub mod Leaves
+pub mod Threshold

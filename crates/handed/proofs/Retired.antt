@@ -62,7 +62,10 @@ module _ (n : ℕ) (m l c a p r : List ℕ) (nurule eps shrinking budget : ℕ) 
   served : Serves n (length m) (length cr) (length h) (length an)
   served = serves n inputs (length m) (length cr) (length h) (length an) (in-time .0)
 
-  out : Out n w cr h o
+  pub answer-long : 72 ≤ length an
+  answer-long = served .answer
+
+  pub out : Out n w cr h an o
   out =
       rw (in-time .1) (delivered-out n w cr h an
       (λ q i e. retired-sized-number n m l (floatsOf c n) (floatsOf a n) (floatsOf p n) r (isOn nurule) (asFloat eps) (isOn shrinking) budget room q i e .0)
@@ -77,7 +80,7 @@ module _ (n : ℕ) (m l c a p r : List ℕ) (nurule eps shrinking budget : ℕ) 
   retired-called = (out .answer, out .accepted)
 
   -- so all that is promised of one holds
-  called-taken : Taken n r (isOn nurule) (asFloat eps) (isOn shrinking) budget room x w
+  pub called-taken : Taken n r (isOn nurule) (asFloat eps) (isOn shrinking) budget room x w
   called-taken = sized-taken n r (isOn nurule) (asFloat eps) (isOn shrinking) budget room x (room-fits n (length m) (served .room)) (out .answer) (out .accepted)
 
   home-at : (s : ℕ) → s < n → digits (o .home) (8 * s) 8 ≡ toBits binary64 (getD (w .left .home) s nan) % 256 ^ 8

@@ -1,3 +1,3 @@
 pub mod Gives
-pub mod Leaves
+pub mod HandsBack
 pub mod Trains

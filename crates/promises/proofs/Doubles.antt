@@ -39,7 +39,7 @@ use Rattle.trace.specs.Trace.{startOf}
 use Rattle.trace.proofs.Kept.{pair-keeps, runs-keeps, trained-keeps}
 use Rattle.trace.proofs.Rests.{same-started, same-reconstructed}
 use Rattle.travel.proofs.Travel.{travelled-trained}
-use Rattle.update.specs.Pair.{pair, holding, iCapped, jCapped, iRaised, jRaised, differLow, differHigh, differed, agreeFirst, agreeSecond, agreed, stepped, pairOf}
+use Rattle.update.specs.Pair.{pair, holding, iCapped, jCapped, iRaised, jRaised, differLow, differHigh, differed, agreeFirst, agreeSecond, agreed, clippedStep, pairOf}
 use Rattle.update.specs.Update.{pairAt, updatedState}
 use Rattle.update.specs.declared.Pair.{Pair}
 use Rattle.update.proofs.Left.{length-updated, alpha-i, alpha-j, alpha-other}
@@ -100,8 +100,8 @@ module _ (p : Pair) (d : Doubled p) where
   unfolding agreeSecond
   agree-second x h = either (lt (p .j .upper) x) _ _ (j-capped _ (sub-fits binary64 x (p .j .upper))) (i-raised x h)
 
-step-doubled : (p : Pair) → Doubled p → (agree : Bool) (delta : Float) → Doubled (stepped agree p delta)
-unfolding stepped agreed differed
+step-doubled : (p : Pair) → Doubled p → (agree : Bool) (delta : Float) → Doubled (clippedStep agree p delta)
+unfolding clippedStep agreed differed
 step-doubled p d agree delta =
     let x = p .i .value in
     let y = p .j .value in

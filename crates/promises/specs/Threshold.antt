@@ -4,8 +4,9 @@ use mathlib.Core.Bool.{Bool, false}
 use mathlib.Core.List.{List}
 use mathlib.Core.Path.{_≡_}
 use Rattle.answer.specs.Lent.{Lent}
+use Rattle.boxrun.specs.Quiet.{Quiet}
 use Rattle.extreme.specs.Rule.{everybody}
-use Rattle.trace.specs.Rule.{NoPair, Quiet, Ended}
+use Rattle.trace.specs.Rule.{NoPair, Ended}
 use Rattle.trace.specs.Trace.{startOf}
 use Rattle.promises.specs.Fit.{Fit, startFrom, runOf}
 use Rattle.promises.specs.Retired.{afterOver}

@@ -5,7 +5,6 @@ use mathlib.Core.List.{List}
 use mathlib.Core.Logic.{_⊎_}
 use mathlib.Core.Path.{_≡_}
 use lib.Ieee.{Float, lt}
-use Rattle.alpha.specs.Weight.{zero}
 use Rattle.choose_c.specs.Rule.{RisesC, FallsC}
 use Rattle.choose_nu.specs.Rule.{RisesNu, FallsNu}
 use Rattle.extreme.specs.Rule.{everybody}
@@ -45,12 +44,6 @@ module _ (stands : ℕ → Bool) (g : Given) (m : List ℕ) (s : State) (a : ℕ
   -- the rule that holds stops: the extremes are below eps, or there is no second
   abbrev pub NoPair : Type 0
   NoPair = Level (g .nu) true ⊎ NoSecond stands (problemOf g m) s (g .floor) a (Rises (g .nu))
-
-  -- what a stop tells of the sums: they are below eps, or none is above 0; one that is neither is NaN, of two infinities
-  pub record Quiet : Type 0 where
-    pub sums : Bool → Float
-    pub each : (t : Bool) → Sum (problemOf g m) s (Rises (g .nu) t) (Falls (g .nu) t) (sums t)
-    pub tells : (isBelow (g .nu) sums ≡ true) ⊎ ((t : Bool) → lt zero (sums t) ≡ false)
 
 module _ (g : Given) (m : List ℕ) where
   -- w over its active positions, with everybody standing

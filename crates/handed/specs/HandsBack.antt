@@ -8,7 +8,7 @@ use Rattle.promises.specs.Leaves.{Beyond}
 use Rattle.wire.specs.Wire.{digits}
 
 -- n samples, the bytes as they were lent, what is handed back
-pub record Leaves (n : ℕ) (crate-bytes home-bytes answer-bytes : List ℕ) (o : Handed) : Type 0 where
+pub record HandsBack (n : ℕ) (crate-bytes home-bytes answer-bytes : List ℕ) (o : Handed) : Type 0 where
   -- the result isn't 0: both result lists are as they were
   pub results : (o .code ≡ 0 → ⊥) → (o .crate ≡ crate-bytes) × (o .home ≡ home-bytes)
   -- behind n doubles, and behind the answer's 72 bytes

@@ -1,0 +1,76 @@
+-- Where a C function answers 0 and the reason in its answer is 0, 'threshold', the rule stops in what its run leaves. Assumes nothing.
+use Prim.Native.Nat.{ℕ, _*_, _%_, _^_, _≤_, _<_}
+use mathlib.Core.List.{List}
+use mathlib.Core.Path.{_≡_, refl, sym, ap, _∙_}
+use native.Mathlib.Omega.{arith}
+use lib.ListN.{length, getD}
+use Rattle.altuliscia.specs.Functions.{isOn, asFloat, generalHost, cHost, nuHost, oneClassHost, retiredHost}
+use Rattle.answer.specs.Answer.{wordsOf, reasonNumber}
+use Rattle.answer.specs.Lent.{Whole}
+use Rattle.answer.specs.declared.Answer.{Answer}
+use Rattle.answer.specs.declared.ExitReason.{ExitReason}
+use Rattle.answer.specs.declared.ExitReason.the-variants.{ReachedThreshold, ReachedIterations}
+use Rattle.answer.specs.declared.Outcome.the-variants.{Accepted}
+use Rattle.boxed.specs.Range.{Entry, Divides}
+use Rattle.boxed.proofs.Step.{floor-divides}
+use Rattle.hosted.specs.Hosted.{floatsOf, room, Handed, answeredBy}
+use Rattle.judge.proofs.Accepted.{general-fine, c-fine, nu-fine, one-class-fine}
+use Rattle.promises.specs.Fit.{Fit}
+use Rattle.promises.specs.Retired.{retiredFit}
+use Rattle.promises.specs.Threshold.{Threshold, ThresholdOver}
+use Rattle.promises.proofs.Box.{entries-in}
+use Rattle.promises.proofs.Threshold.{served-threshold, taken-threshold}
+use Rattle.retired.specs.Entry.{standsIn}
+use Rattle.wire.specs.Wire.{digits, floatAt}
+use Rattle.handed.specs.Gives.{decoded}
+use Rattle.handed.specs.Trains.{generalTrains, cTrains, nuTrains, oneClassTrains}
+use Rattle.handed.proofs.Handed.{Ran, general-ran, c-ran, nu-ran, one-class-ran}
+use Rattle.handed.proofs.Retired.{out, called-taken, answer-long}
+use Rattle.handed.proofs.Stored.{word-at}
+
+-- the eighth word of an accepted answer
+reason-told : (x : Answer) (an : List ℕ) → 72 ≤ length an → digits (answeredBy (Accepted x) an) 56 8 ≡ 0 → x .«exit_reason» ≡ ReachedThreshold
+unfolding wordsOf reasonNumber
+reason-told x an long z = go (x .«exit_reason») (sym (word-at (wordsOf (Accepted x)) an 9 7 long (omega arith)) ∙ z)
+  where
+    go : (r : ExitReason) → reasonNumber r % 256 ^ 8 ≡ 0 → r ≡ ReachedThreshold
+    go ReachedThreshold e = refl
+    go ReachedIterations e = absurd (omega (arith, e))
+
+ran-threshold : {k : Fit} {m cr h an : List ℕ} {budget : ℕ} {w : Whole} {o : Handed} → Ran k m cr h an budget w o
+    → ((i : ℕ) → i < k .given .n * k .given .n → Entry (floatAt m (8 * i))) → Divides (k .given .floor) → digits (o .answer) 56 8 ≡ 0 → Threshold k m room budget
+ran-threshold {an = an} r entries floor z =
+    served-threshold (r .served) entries floor (r .out .answer) (r .out .accepted)
+    (reason-told (r .out .answer) an (r .answer-long) (sym (ap (λ (b : List ℕ). digits b 56 8) (r .out .told)) ∙ z))
+
+module _ (n : ℕ) (m l c a p : List ℕ) (nurule eps shrinking budget : ℕ) (cr h an : List ℕ) (z : generalHost n m l c a p nurule eps shrinking budget cr h an .code ≡ 0) where
+  pub general-called-threshold : digits (generalHost n m l c a p nurule eps shrinking budget cr h an .answer) 56 8 ≡ 0 → Threshold (generalTrains n l c a p nurule eps shrinking) m room budget
+  general-called-threshold =
+      let r = general-ran n m l c a p nurule eps shrinking budget cr h an z in
+      ran-threshold (r .2) (entries-in n m (general-fine n m l (floatsOf c n) (floatsOf a n) (floatsOf p n) (asFloat eps) budget (r .1) .matrix)) floor-divides
+
+module _ (n : ℕ) (m l : List ℕ) (cpos cneg eps shrinking budget : ℕ) (cr h an : List ℕ) (z : cHost n m l cpos cneg eps shrinking budget cr h an .code ≡ 0) where
+  pub c-called-threshold : digits (cHost n m l cpos cneg eps shrinking budget cr h an .answer) 56 8 ≡ 0 → Threshold (cTrains n l cpos cneg eps shrinking) m room budget
+  c-called-threshold =
+      let r = c-ran n m l cpos cneg eps shrinking budget cr h an z in
+      ran-threshold (r .2) (entries-in n m (c-fine n m l (asFloat cpos) (asFloat cneg) (asFloat eps) budget (r .1) .matrix)) floor-divides
+
+module _ (n : ℕ) (m l : List ℕ) (nu eps shrinking budget : ℕ) (cr h an : List ℕ) (z : nuHost n m l nu eps shrinking budget cr h an .code ≡ 0) where
+  pub nu-called-threshold : digits (nuHost n m l nu eps shrinking budget cr h an .answer) 56 8 ≡ 0 → Threshold (nuTrains n l nu eps shrinking) m room budget
+  nu-called-threshold =
+      let r = nu-ran n m l nu eps shrinking budget cr h an z in
+      ran-threshold (r .2) (entries-in n m (nu-fine n m l (asFloat nu) (asFloat eps) budget (r .1) .matrix)) floor-divides
+
+module _ (n : ℕ) (m : List ℕ) (nu eps shrinking budget : ℕ) (cr h an : List ℕ) (z : oneClassHost n m nu eps shrinking budget cr h an .code ≡ 0) where
+  pub one-class-called-threshold : digits (oneClassHost n m nu eps shrinking budget cr h an .answer) 56 8 ≡ 0 → Threshold (oneClassTrains n nu eps shrinking) m room budget
+  one-class-called-threshold =
+      let r = one-class-ran n m nu eps shrinking budget cr h an z in
+      ran-threshold (r .2) (entries-in n m (one-class-fine n m (asFloat nu) (asFloat eps) budget (r .1) .matrix)) floor-divides
+
+module _ (n : ℕ) (m l c a p r : List ℕ) (nurule eps shrinking budget : ℕ) (t cr h an : List ℕ) (z : retiredHost n m l c a p r nurule eps shrinking budget t cr h an .code ≡ 0) where
+  pub retired-called-threshold : digits (retiredHost n m l c a p r nurule eps shrinking budget t cr h an .answer) 56 8 ≡ 0
+      → ThresholdOver (standsIn r) (retiredFit n (decoded n m l c a p) r (isOn nurule) (asFloat eps)) m room budget
+  retired-called-threshold q =
+      let v = out n m l c a p r nurule eps shrinking budget t cr h an z in
+      taken-threshold (called-taken n m l c a p r nurule eps shrinking budget t cr h an z) (v .answer) (v .accepted)
+      (reason-told (v .answer) an (answer-long n m l c a p r nurule eps shrinking budget t cr h an z) (sym (ap (λ (b : List ℕ). digits b 56 8) (v .told)) ∙ q))
