@@ -1,7 +1,9 @@
--- Where a C function answers 0 and the reason in its answer is 0, 'threshold', the rule stops in what its run leaves. Assumes nothing.
+-- Where a C function answers 0: the iterations in its answer are the steps of its run (`..-called-iterations`); and where the reason there is 0,
+-- 'threshold', the rule stops in what the run leaves (`..-called-threshold`). Assumes nothing.
 use Prim.Native.Nat.{ℕ, _*_, _%_, _^_, _≤_, _<_}
 use mathlib.Core.List.{List}
 use mathlib.Core.Path.{_≡_, refl, sym, ap, _∙_}
+use native.Mathlib.Nat.{mod-eq-of-lt}
 use native.Mathlib.Omega.{arith}
 use lib.ListN.{length, getD}
 use Rattle.altuliscia.specs.Functions.{isOn, asFloat, generalHost, cHost, nuHost, oneClassHost, retiredHost}
@@ -15,10 +17,11 @@ use Rattle.boxed.specs.Range.{Entry, Divides}
 use Rattle.boxed.proofs.Step.{floor-divides}
 use Rattle.hosted.specs.Hosted.{floatsOf, room, Handed, answeredBy}
 use Rattle.judge.proofs.Accepted.{general-fine, c-fine, nu-fine, one-class-fine}
-use Rattle.promises.specs.Fit.{Fit}
+use Rattle.promises.specs.Fit.{Fit, Counts}
 use Rattle.promises.specs.Retired.{retiredFit}
 use Rattle.promises.specs.Threshold.{Threshold, ThresholdOver}
 use Rattle.promises.proofs.Box.{entries-in}
+use Rattle.promises.proofs.Iterations.{served-iterations}
 use Rattle.promises.proofs.Threshold.{served-threshold, taken-threshold}
 use Rattle.retired.specs.Entry.{standsIn}
 use Rattle.wire.specs.Wire.{digits, floatAt}
@@ -37,6 +40,17 @@ reason-told x an long z = go (x .«exit_reason») (sym (word-at (wordsOf (Accept
     go ReachedThreshold e = refl
     go ReachedIterations e = absurd (omega (arith, e))
 
+-- the seventh: as long as the count fits a word
+count-told : (x : Answer) (an : List ℕ) → 72 ≤ length an → x .iterations ≤ 10000000 → digits (answeredBy (Accepted x) an) 48 8 ≡ x .iterations
+unfolding wordsOf
+count-told x an long few = word-at (wordsOf (Accepted x)) an 9 6 long (omega arith) ∙ mod-eq-of-lt (omega arith)
+
+ran-iterations : {k : Fit} {m cr h an : List ℕ} {budget : ℕ} {w : Whole} {o : Handed} → Ran k m cr h an budget w o → Counts k m room budget (digits (o .answer) 48 8)
+ran-iterations {an = an} r =
+    let c = served-iterations (r .served) (r .out .answer) (r .out .accepted) in
+    let q = ap (λ (b : List ℕ). digits b 48 8) (r .out .told) ∙ count-told (r .out .answer) an (r .answer-long) (omega (arith, c .1, r .served .usable .budget-most)) in
+    (q ∙ c .0, omega (arith, c .1))
+
 ran-threshold : {k : Fit} {m cr h an : List ℕ} {budget : ℕ} {w : Whole} {o : Handed} → Ran k m cr h an budget w o
     → ((i : ℕ) → i < k .given .n * k .given .n → Entry (floatAt m (8 * i))) → Divides (k .given .floor) → digits (o .answer) 56 8 ≡ 0 → Threshold k m room budget
 ran-threshold {an = an} r entries floor z =
@@ -44,24 +58,36 @@ ran-threshold {an = an} r entries floor z =
     (reason-told (r .out .answer) an (r .answer-long) (sym (ap (λ (b : List ℕ). digits b 56 8) (r .out .told)) ∙ z))
 
 module _ (n : ℕ) (m l c a p : List ℕ) (nurule eps shrinking budget : ℕ) (cr h an : List ℕ) (z : generalHost n m l c a p nurule eps shrinking budget cr h an .code ≡ 0) where
+  pub general-called-iterations : Counts (generalTrains n l c a p nurule eps shrinking) m room budget (digits (generalHost n m l c a p nurule eps shrinking budget cr h an .answer) 48 8)
+  general-called-iterations = ran-iterations (general-ran n m l c a p nurule eps shrinking budget cr h an z .2)
+
   pub general-called-threshold : digits (generalHost n m l c a p nurule eps shrinking budget cr h an .answer) 56 8 ≡ 0 → Threshold (generalTrains n l c a p nurule eps shrinking) m room budget
   general-called-threshold =
       let r = general-ran n m l c a p nurule eps shrinking budget cr h an z in
       ran-threshold (r .2) (entries-in n m (general-fine n m l (floatsOf c n) (floatsOf a n) (floatsOf p n) (asFloat eps) budget (r .1) .matrix)) floor-divides
 
 module _ (n : ℕ) (m l : List ℕ) (cpos cneg eps shrinking budget : ℕ) (cr h an : List ℕ) (z : cHost n m l cpos cneg eps shrinking budget cr h an .code ≡ 0) where
+  pub c-called-iterations : Counts (cTrains n l cpos cneg eps shrinking) m room budget (digits (cHost n m l cpos cneg eps shrinking budget cr h an .answer) 48 8)
+  c-called-iterations = ran-iterations (c-ran n m l cpos cneg eps shrinking budget cr h an z .2)
+
   pub c-called-threshold : digits (cHost n m l cpos cneg eps shrinking budget cr h an .answer) 56 8 ≡ 0 → Threshold (cTrains n l cpos cneg eps shrinking) m room budget
   c-called-threshold =
       let r = c-ran n m l cpos cneg eps shrinking budget cr h an z in
       ran-threshold (r .2) (entries-in n m (c-fine n m l (asFloat cpos) (asFloat cneg) (asFloat eps) budget (r .1) .matrix)) floor-divides
 
 module _ (n : ℕ) (m l : List ℕ) (nu eps shrinking budget : ℕ) (cr h an : List ℕ) (z : nuHost n m l nu eps shrinking budget cr h an .code ≡ 0) where
+  pub nu-called-iterations : Counts (nuTrains n l nu eps shrinking) m room budget (digits (nuHost n m l nu eps shrinking budget cr h an .answer) 48 8)
+  nu-called-iterations = ran-iterations (nu-ran n m l nu eps shrinking budget cr h an z .2)
+
   pub nu-called-threshold : digits (nuHost n m l nu eps shrinking budget cr h an .answer) 56 8 ≡ 0 → Threshold (nuTrains n l nu eps shrinking) m room budget
   nu-called-threshold =
       let r = nu-ran n m l nu eps shrinking budget cr h an z in
       ran-threshold (r .2) (entries-in n m (nu-fine n m l (asFloat nu) (asFloat eps) budget (r .1) .matrix)) floor-divides
 
 module _ (n : ℕ) (m : List ℕ) (nu eps shrinking budget : ℕ) (cr h an : List ℕ) (z : oneClassHost n m nu eps shrinking budget cr h an .code ≡ 0) where
+  pub one-class-called-iterations : Counts (oneClassTrains n nu eps shrinking) m room budget (digits (oneClassHost n m nu eps shrinking budget cr h an .answer) 48 8)
+  one-class-called-iterations = ran-iterations (one-class-ran n m nu eps shrinking budget cr h an z .2)
+
   pub one-class-called-threshold : digits (oneClassHost n m nu eps shrinking budget cr h an .answer) 56 8 ≡ 0 → Threshold (oneClassTrains n nu eps shrinking) m room budget
   one-class-called-threshold =
       let r = one-class-ran n m nu eps shrinking budget cr h an z in

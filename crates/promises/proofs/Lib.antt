@@ -13,3 +13,4 @@ pub mod Threshold
 pub mod Beyond
 pub mod Leaves
 pub mod Doubles
+pub mod Iterations

@@ -38,7 +38,7 @@ use Rattle.travel.proofs.Home.{Told}
 use Rattle.promises.specs.Fit.{Fit, startFrom, after, weightAfter}
 use Rattle.promises.specs.Retired.{retiredFit, silentFit, afterOver, weightOver, pairOver, stepsOver, ownOver}
 
-abbrev iterationsOf : Outcome → ℕ
+abbrev pub iterationsOf : Outcome → ℕ
 iterationsOf (Accepted z) = z .iterations
 iterationsOf (Refused number index) = 0
 

@@ -1,9 +1,10 @@
 -- What each entry trains, and the run behind its answer.
-use Prim.Native.Nat.{ℕ}
+use Prim.Native.Nat.{ℕ, _≤_}
 use mathlib.Core.Bool.{Bool, true, false}
 use mathlib.Core.List.{List}
+use mathlib.Core.Path.{_≡_}
 use lib.Ieee.{Float, nan}
-use lib.ListN.{getD}
+use lib.ListN.{length, getD}
 use Rattle.alpha.specs.Weight.{one, minusOne}
 use Rattle.answer.specs.Answer.{coefficientOf}
 use Rattle.answer.specs.Lent.{Lent}
@@ -75,6 +76,10 @@ module _ (k : Fit) (m : List ℕ) (d : Lent) where
   -- its steps, pass for pass
   abbrev pub stepsTaken : ℕ → List Step
   stepsTaken budget = traced (k .given) m (k .ceilings) (startOf (k .given) m (k .ceilings) startFrom) budget
+
+  -- a count of iterations c is that of the steps, at most the budget
+  abbrev pub Counts : ℕ → ℕ → Type 0
+  Counts budget c = (c ≡ length (stepsTaken budget)) × (c ≤ budget)
 
   abbrev pub rOf : ℕ → Float
   rOf budget = levelAt (k .given) (runOf budget) .r
