@@ -152,6 +152,10 @@ uint64_t altuliscia_one_class(size_t n, const uint8_t *matrix, size_t matrix_len
                               uint64_t budget, uint8_t *crate_reading, size_t crate_reading_len, uint8_t *home, size_t home_len,
                               uint8_t *answer, size_t answer_len);
 
+#ifdef __cplusplus
+}
+#endif
+
 /* The same with doubles, inline, for C from C99 on and C++. */
 #if defined(__cplusplus) || (defined(__STDC_VERSION__) && __STDC_VERSION__ >= 199901L)
 
@@ -265,10 +269,6 @@ static inline double altuliscia_decide_by_label(size_t n, const double *home, co
 #undef ALTULISCIA_READ
 #undef ALTULISCIA_MARKS
 #undef ALTULISCIA_WRITTEN
-#endif
-
-#ifdef __cplusplus
-}
 #endif
 
 /* Guards. A double in the place of its bits would be cut to a whole number: 1.0 to 1, the bits of 4.94e-324. So macros with the
