@@ -7,10 +7,7 @@
 //! ```
 //! use altuliscia::{fit_c, ExitReason, Options, Problem};
 //!
-//! let problem = Problem {
-//!     matrix: &[1.0, 0.0, 0.0, 1.0],
-//!     labels: &[true, false],
-//! };
+//! let problem = Problem { matrix: &[1.0, 0.0, 0.0, 1.0], labels: &[true, false] };
 //! let answer = fit_c(&problem, 1.0, 1.0, &Options::default())?;
 //! assert_eq!(answer.home, [1.0, -1.0]);
 //! assert_eq!((answer.rho, answer.obj), (0.0, -1.0));
