@@ -41,7 +41,6 @@
 
 #include <stddef.h>
 #include <stdint.h>
-#include <string.h>
 
 #ifdef __cplusplus
 extern "C" {
@@ -185,8 +184,11 @@ typedef char altuliscia_result_has_72_bytes[sizeof(altuliscia_result) == ALTULIS
 
 /* The eight bytes of a double, as a number. */
 static inline uint64_t altuliscia_bits(double x) {
-    uint64_t bits;
-    memcpy(&bits, &x, 8);
+    const unsigned char *bytes = ALTULISCIA_CAST(const unsigned char *, &x);
+    uint64_t bits = 0;
+    size_t k;
+    for (k = 8; k > 0; k--)
+        bits = bits << 8 | bytes[k - 1];
     return bits;
 }
 
