@@ -277,9 +277,10 @@ static inline double altuliscia_decide_by_label(size_t n, const double *home, co
  * functions' names put each such argument through `| 0`, which leaves a whole number as it is and doesn't compile for a double.
  * The functions are there as before: a name in brackets, (altuliscia_c)(..), or without brackets behind it is the function, unguarded.
  * An argument before or among the bits that has a comma of its own goes in brackets, ((uint8_t[]){1, 0}). There are no guards where
- * ALTULISCIA_UNGUARDED is defined before the #include, nor in C89. */
+ * ALTULISCIA_UNGUARDED is defined before the #include, nor in C89, nor in C++98 but by gcc and clang. */
 #if defined(__cplusplus) && __cplusplus < 201103L && defined(__GNUC__) && __INCLUDE_LEVEL__ > 0
-/* Macros with `...` are newer than C++98. gcc and clang have them there, and tell it under -pedantic but in a system's header. */
+/* Macros with `...` are newer than C++98. gcc and clang have them there; -pedantic tells it, but not of a system's header, which this
+ * is from here on. */
 #pragma GCC system_header
 #define ALTULISCIA_GUARDS
 #elif defined(__cplusplus) && __cplusplus >= 201103L
