@@ -292,7 +292,7 @@ class Retired(Refused):
                 self.assertEqual([told(fit) for fit in problem.fits(shrinking=shrinking, retired=nobody)], plain)
         with mock.patch("altuliscia._called", wraps=altuliscia._called) as called:
             problem.fits(retired=[])
-        names = [call.args[0] for call in called.call_args_list]
+        names = [call[0][0] for call in called.call_args_list]
         self.assertEqual(names, ["altuliscia_c", "altuliscia_general", "altuliscia_general"])
         for fit in (*problem.fits(), fit_nu(IDENTITY, [1, 0]), fit_one_class(IDENTITY)):
             self.assertEqual(fit.retired_, [])
