@@ -1,13 +1,25 @@
-/* Altuliscia: the trainer of a sorter, as five C functions in libaltuliscia.a (x86-64).
+/* Altuliscia: a support vector machine trainer (SMO on a precomputed kernel: C, nu, one class), as C functions in libaltuliscia.a, for
+ * x86-64 and aarch64.
  *
- * Lists. A slice is a pointer and its length in bytes. A list of n doubles is 8n bytes: each double stands in eight bytes, lowest
- * first, which is how x86-64 keeps a double in memory. The matrix is 8*n*n bytes: the double of column c, row r stands in the
- * eight bytes from 8*(c*n + r); it need not be symmetric. Labels are n bytes, 1 positive, 0 negative; retired bytes are n, 1
+ * Which to call. altuliscia_train_c and its four fellows take doubles and fill a struct: they are the ones to write by hand. They are
+ * inline, over the five functions on bytes (altuliscia_c and so on), which are what the archive has, what is proved, and what other
+ * languages call. The inline ones are tested, not proved.
+ *
+ * How to use the answer. home[s] is the weight of sample s (its dual coefficient), K(s, x) the kernel value of sample s and something
+ * new: the sum over the samples of home[s] * K(s, x), less rho, is the decision. From 0 on x is positive (under one class: of the
+ * class), else, NaN too, negative. altuliscia_decide does this sum. altuliscia_c and altuliscia_nu answer weights that are signed by
+ * label. Those of altuliscia_general and altuliscia_retired aren't: there each term is to be multiplied by 1 where the label is 1 and
+ * by -1 where it is 0, which altuliscia_decide_by_label does. Before an answer is used: the result is 0, the reason is
+ * ALTULISCIA_THRESHOLD, rho is finite, and under nu so is r, which isn't 0.
+ *
+ * Lists on bytes. A slice is a pointer and its length in bytes. A list of n doubles is 8n bytes: each double stands in eight bytes,
+ * lowest first, which is how both processors keep a double in memory. The matrix is 8*n*n bytes: the double of column c, row r stands
+ * in the eight bytes from 8*(c*n + r); it need not be symmetric. Labels are n bytes, 1 positive, 0 negative; retired bytes are n, 1
  * retired, 0 not. Slices may stand at any address, odd ones too. A slice of length 0 may be NULL. What is written (crate_reading,
  * home, answer) may overlap nothing else that is lent.
  *
- * Numbers. eps, cpos, cneg and nu are doubles that travel as the uint64_t with the same eight bytes (memcpy). A flag is on when it
- * isn't 0.
+ * Numbers. To the functions on bytes eps, cpos, cneg and nu travel as the uint64_t with the same eight bytes, which altuliscia_bits
+ * gives. A float or double handed over in such a place doesn't compile (see 'guards' below). A flag is on when it isn't 0.
  *
  * Results. Where the run is accepted the result is 0: the first 8n bytes of crate_reading and of home hold n doubles each and
  * `answer` holds the answer. Else the result is a refusal's number: `answer` holds it with its index, and both lists stay as they
@@ -38,8 +50,9 @@ extern "C" {
 #define ALTULISCIA_MOST_SAMPLES 512
 #define ALTULISCIA_MOST_PASSES 10000000
 
-/* What a call needs of the stack at the most, in bytes. */
+/* What a call needs of the stack at the most, in bytes; and one of an altuliscia_train_.. function, which has room of its own. */
 #define ALTULISCIA_STACK_BYTES 65536
+#define ALTULISCIA_TRAIN_STACK_BYTES 70656
 
 /* The answer: nine numbers of eight bytes, lowest byte first. Each name is the byte where the number begins. */
 #define ALTULISCIA_ANSWER_BYTES 72
@@ -141,5 +154,160 @@ uint64_t altuliscia_one_class(size_t n, const uint8_t *matrix, size_t matrix_len
 #ifdef __cplusplus
 }
 #endif
+
+/* The same with doubles, inline, for C from C99 on and C++. */
+#if defined(__cplusplus) || (defined(__STDC_VERSION__) && __STDC_VERSION__ >= 199901L)
+
+#ifdef __cplusplus
+#define ALTULISCIA_CAST(type, pointer) reinterpret_cast<type>(pointer)
+#else
+#define ALTULISCIA_CAST(type, pointer) ((type)(pointer))
+#endif
+/* A list of that many doubles as a slice, and one of that many bytes; where it is NULL, one of length 0. */
+#define ALTULISCIA_READ(list, count) ALTULISCIA_CAST(const uint8_t *, list), (list) ? 8 * (count) : 0
+#define ALTULISCIA_MARKS(list, count) list, (list) ? (count) : 0
+#define ALTULISCIA_WRITTEN(list, count) ALTULISCIA_CAST(uint8_t *, list), (list) ? 8 * (count) : 0
+
+/* The answer's nine numbers, as they stand in its 72 bytes. Where a call is refused, all but the first two are 0. */
+typedef struct altuliscia_result {
+    uint64_t refusal;    /* 0 where accepted, else one of enum altuliscia_refusal */
+    uint64_t index;      /* the first offending index for refusals 3 to 7, else 0 */
+    double rho;
+    uint64_t has_r;      /* 1 where the nu rule holds, else 0 */
+    double r;            /* 0 where it isn't there */
+    double obj;
+    uint64_t iterations; /* how many steps were taken */
+    uint64_t reason;     /* one of enum altuliscia_reason */
+    uint64_t support;    /* how many places of home aren't zero; NaN counts, -0 doesn't */
+} altuliscia_result;
+typedef char altuliscia_result_has_72_bytes[sizeof(altuliscia_result) == ALTULISCIA_ANSWER_BYTES ? 1 : -1];
+
+/* The eight bytes of a double, as a number. */
+static inline uint64_t altuliscia_bits(double x) {
+    const unsigned char *bytes = ALTULISCIA_CAST(const unsigned char *, &x);
+    uint64_t bits = 0;
+    size_t k;
+    for (k = 8; k > 0; k--)
+        bits = bits << 8 | bytes[k - 1];
+    return bits;
+}
+
+/* Each altuliscia_train_X is altuliscia_X: it returns the same and fills the same. The matrix has n*n doubles, every other list n. A
+ * list that is NULL counts as one of length 0, which is refusal 2, and so does a NULL result; but crate_reading may be NULL, where it
+ * isn't wanted. Then it is written to room on the stack. */
+static inline uint64_t altuliscia_train_c(size_t n, const double *matrix, const uint8_t *labels, double cpos, double cneg,
+                                          double eps, int shrinking, uint64_t budget, double *crate_reading, double *home,
+                                          altuliscia_result *result) {
+    double room[ALTULISCIA_MOST_SAMPLES], *crate = crate_reading ? crate_reading : room;
+    return altuliscia_c(n, ALTULISCIA_READ(matrix, n * n), ALTULISCIA_MARKS(labels, n), altuliscia_bits(cpos),
+                        altuliscia_bits(cneg), altuliscia_bits(eps), shrinking != 0, budget, ALTULISCIA_WRITTEN(crate, n),
+                        ALTULISCIA_WRITTEN(home, n), ALTULISCIA_WRITTEN(result, 9u));
+}
+
+static inline uint64_t altuliscia_train_nu(size_t n, const double *matrix, const uint8_t *labels, double nu, double eps,
+                                           int shrinking, uint64_t budget, double *crate_reading, double *home,
+                                           altuliscia_result *result) {
+    double room[ALTULISCIA_MOST_SAMPLES], *crate = crate_reading ? crate_reading : room;
+    return altuliscia_nu(n, ALTULISCIA_READ(matrix, n * n), ALTULISCIA_MARKS(labels, n), altuliscia_bits(nu),
+                         altuliscia_bits(eps), shrinking != 0, budget, ALTULISCIA_WRITTEN(crate, n),
+                         ALTULISCIA_WRITTEN(home, n), ALTULISCIA_WRITTEN(result, 9u));
+}
+
+static inline uint64_t altuliscia_train_one_class(size_t n, const double *matrix, double nu, double eps, int shrinking,
+                                                  uint64_t budget, double *crate_reading, double *home,
+                                                  altuliscia_result *result) {
+    double room[ALTULISCIA_MOST_SAMPLES], *crate = crate_reading ? crate_reading : room;
+    return altuliscia_one_class(n, ALTULISCIA_READ(matrix, n * n), altuliscia_bits(nu), altuliscia_bits(eps), shrinking != 0,
+                                budget, ALTULISCIA_WRITTEN(crate, n), ALTULISCIA_WRITTEN(home, n),
+                                ALTULISCIA_WRITTEN(result, 9u));
+}
+
+static inline uint64_t altuliscia_train_general(size_t n, const double *matrix, const uint8_t *labels, const double *ceilings,
+                                                const double *alphas, const double *linear, int nu_rule, double eps,
+                                                int shrinking, uint64_t budget, double *crate_reading, double *home,
+                                                altuliscia_result *result) {
+    double room[ALTULISCIA_MOST_SAMPLES], *crate = crate_reading ? crate_reading : room;
+    return altuliscia_general(n, ALTULISCIA_READ(matrix, n * n), ALTULISCIA_MARKS(labels, n), ALTULISCIA_READ(ceilings, n),
+                              ALTULISCIA_READ(alphas, n), ALTULISCIA_READ(linear, n), nu_rule != 0, altuliscia_bits(eps),
+                              shrinking != 0, budget, ALTULISCIA_WRITTEN(crate, n), ALTULISCIA_WRITTEN(home, n),
+                              ALTULISCIA_WRITTEN(result, 9u));
+}
+
+/* The tuning is empty, and shrinking, which must be off, isn't asked for. */
+static inline uint64_t altuliscia_train_retired(size_t n, const double *matrix, const uint8_t *labels, const double *ceilings,
+                                                const double *alphas, const double *linear, const uint8_t *retired, int nu_rule,
+                                                double eps, uint64_t budget, double *crate_reading, double *home,
+                                                altuliscia_result *result) {
+    double room[ALTULISCIA_MOST_SAMPLES], *crate = crate_reading ? crate_reading : room;
+    return altuliscia_retired(n, ALTULISCIA_READ(matrix, n * n), ALTULISCIA_MARKS(labels, n), ALTULISCIA_READ(ceilings, n),
+                              ALTULISCIA_READ(alphas, n), ALTULISCIA_READ(linear, n), ALTULISCIA_MARKS(retired, n), nu_rule != 0,
+                              altuliscia_bits(eps), 0, budget, NULL, 0, ALTULISCIA_WRITTEN(crate, n),
+                              ALTULISCIA_WRITTEN(home, n), ALTULISCIA_WRITTEN(result, 9u));
+}
+
+/* The decision of weights that are signed by label, or of one class: the sum over the samples, in their order, of weight times kernel
+ * value, less rho. A value beside a weight of 0 is passed over, so those of the support vectors are enough. */
+static inline double altuliscia_decide(size_t n, const double *home, double rho, const double *values) {
+    double sum = 0;
+    size_t s;
+    for (s = 0; s < n; s++)
+        if (home[s] != 0)
+            sum += home[s] * values[s];
+    return sum - rho;
+}
+
+/* The same of weights that aren't signed: those of general and retired. */
+static inline double altuliscia_decide_by_label(size_t n, const double *home, const uint8_t *labels, double rho,
+                                                const double *values) {
+    double sum = 0;
+    size_t s;
+    for (s = 0; s < n; s++)
+        if (home[s] != 0)
+            sum += (labels[s] ? home[s] : -home[s]) * values[s];
+    return sum - rho;
+}
+
+#undef ALTULISCIA_CAST
+#undef ALTULISCIA_READ
+#undef ALTULISCIA_MARKS
+#undef ALTULISCIA_WRITTEN
+#endif
+
+/* Guards. A double in the place of its bits would be cut to a whole number: 1.0 to 1, the bits of 4.94e-324. So macros with the
+ * functions' names put each such argument through `| 0`, which leaves a whole number as it is and doesn't compile for a double.
+ * The functions are there as before: a name in brackets, (altuliscia_c)(..), or without brackets behind it is the function, unguarded.
+ * An argument before or among the bits that has a comma of its own goes in brackets, ((uint8_t[]){1, 0}). There are no guards where
+ * ALTULISCIA_UNGUARDED is defined before the #include, nor in C89, nor in C++98 but by gcc and clang. */
+#if defined(__cplusplus) && __cplusplus < 201103L && defined(__GNUC__) && __INCLUDE_LEVEL__ > 0
+/* Macros with `...` are newer than C++98. gcc and clang have them there; -pedantic tells it, but not of a system's header, which this
+ * is from here on. */
+#pragma GCC system_header
+#define ALTULISCIA_GUARDS
+#elif defined(__cplusplus) && __cplusplus >= 201103L
+#define ALTULISCIA_GUARDS
+#elif !defined(__cplusplus) && defined(__STDC_VERSION__) && __STDC_VERSION__ >= 199901L
+#define ALTULISCIA_GUARDS
+#endif
+#if defined(ALTULISCIA_GUARDS) && !defined(ALTULISCIA_UNGUARDED)
+#define ALTULISCIA_BITS_WANTED(x) ((x) | 0)
+#define altuliscia_general(...) ALTULISCIA_GUARDED_GENERAL(__VA_ARGS__)
+#define altuliscia_retired(...) ALTULISCIA_GUARDED_RETIRED(__VA_ARGS__)
+#define altuliscia_c(...) ALTULISCIA_GUARDED_C(__VA_ARGS__)
+#define altuliscia_nu(...) ALTULISCIA_GUARDED_NU(__VA_ARGS__)
+#define altuliscia_one_class(...) ALTULISCIA_GUARDED_ONE_CLASS(__VA_ARGS__)
+#define ALTULISCIA_GUARDED_GENERAL(n, m, m_len, l, l_len, c, c_len, a, a_len, p, p_len, nu_rule, eps, ...) \
+    altuliscia_general(n, m, m_len, l, l_len, c, c_len, a, a_len, p, p_len, nu_rule, ALTULISCIA_BITS_WANTED(eps), __VA_ARGS__)
+#define ALTULISCIA_GUARDED_RETIRED(n, m, m_len, l, l_len, c, c_len, a, a_len, p, p_len, r, r_len, nu_rule, eps, ...) \
+    altuliscia_retired(n, m, m_len, l, l_len, c, c_len, a, a_len, p, p_len, r, r_len, nu_rule, ALTULISCIA_BITS_WANTED(eps), \
+                       __VA_ARGS__)
+#define ALTULISCIA_GUARDED_C(n, m, m_len, l, l_len, cpos, cneg, eps, ...) \
+    altuliscia_c(n, m, m_len, l, l_len, ALTULISCIA_BITS_WANTED(cpos), ALTULISCIA_BITS_WANTED(cneg), ALTULISCIA_BITS_WANTED(eps), \
+                 __VA_ARGS__)
+#define ALTULISCIA_GUARDED_NU(n, m, m_len, l, l_len, nu, eps, ...) \
+    altuliscia_nu(n, m, m_len, l, l_len, ALTULISCIA_BITS_WANTED(nu), ALTULISCIA_BITS_WANTED(eps), __VA_ARGS__)
+#define ALTULISCIA_GUARDED_ONE_CLASS(n, m, m_len, nu, eps, ...) \
+    altuliscia_one_class(n, m, m_len, ALTULISCIA_BITS_WANTED(nu), ALTULISCIA_BITS_WANTED(eps), __VA_ARGS__)
+#endif
+#undef ALTULISCIA_GUARDS
 
 #endif

@@ -1,5 +1,5 @@
-/* Measures what each function needs of the stack: each is run on a painted stack, over many problems, and the lowest byte that lost
- * its paint is looked for. The exit status is 1 where it is more than the header says. */
+/* Measures what each function needs of the stack, those with doubles too: each is run on a painted stack, over many problems, and the
+ * lowest byte that lost its paint is looked for. The exit status is 1 where it is more than the header says. */
 #define _POSIX_C_SOURCE 200809L
 #include "altuliscia.h"
 
@@ -8,7 +8,7 @@
 #include <stdlib.h>
 #include <string.h>
 
-enum { MOST = 512, ROOM = 1 << 20, PAINT = 0xa5, RUNS = 400, FUNCTIONS = 5 };
+enum { MOST = 512, ROOM = 1 << 20, PAINT = 0xa5, RUNS = 400, ON_BYTES = 5, FUNCTIONS = 10 };
 
 static double matrix[MOST * MOST], ceilings[MOST], alphas[MOST], linear[MOST], crate_reading[MOST], home[MOST];
 static uint8_t labels[MOST], retired[MOST], answer[ALTULISCIA_ANSWER_BYTES];
@@ -69,21 +69,47 @@ static uint64_t call(int which, size_t n, uint8_t shrinking) {
     }
 }
 
-static void *work(void *which) {
+/* The same calls with doubles, without a list for the crate's reading. */
+static uint64_t call_train(int which, size_t n, uint8_t shrinking) {
+    uint64_t budget = 1 + below(200);
+    altuliscia_result result;
+    int rule = (int)below(2);
+    switch (which) {
+    case 0:
+        return altuliscia_train_general(n, matrix, labels, ceilings, alphas, linear, rule, 0.001, shrinking, budget, NULL, home,
+                                        &result);
+    case 1:
+        return altuliscia_train_c(n, matrix, labels, 1.0, 2.0, 0.001, shrinking, budget, NULL, home, &result);
+    case 2:
+        return altuliscia_train_nu(n, matrix, labels, 0.4, 0.001, shrinking, budget, NULL, home, &result);
+    case 3:
+        return altuliscia_train_one_class(n, matrix, 0.4, 0.001, shrinking, budget, NULL, home, &result);
+    default:
+        return altuliscia_train_retired(n, matrix, labels, ceilings, alphas, linear, retired, rule, 0.001, budget, NULL, home,
+                                        &result);
+    }
+}
+
+/* Volatile, so that neither is inlined: their frames lie below that of `work`, and are measured too. */
+static uint64_t (*volatile calls[])(int, size_t, uint8_t) = {call, call_train};
+
+static void *work(void *given) {
     char here = 0;
+    int which = *(int *)given;
     call_begins = (uintptr_t)&here;
     accepted = 0;
     for (int k = 0; k < RUNS; k++) {
         size_t n = k == 0 ? MOST : 2 + below(30);
         fill(n);
-        accepted += call(*(int *)which, n, k % 4 != 1) == ALTULISCIA_ACCEPTED;
+        accepted += calls[which / ON_BYTES](which % ON_BYTES, n, k % 4 != 1) == ALTULISCIA_ACCEPTED;
     }
     return NULL;
 }
 
 int main(void) {
-    static const char *names[FUNCTIONS] = {"general", "c", "nu", "one_class", "retired"};
-    size_t most = 0;
+    static const char *names[FUNCTIONS] = {"general",       "c",       "nu",       "one_class",       "retired",
+                                           "train_general", "train_c", "train_nu", "train_one_class", "train_retired"};
+    int over = 0;
     for (int which = 0; which < FUNCTIONS; which++) {
         void *stack;
         pthread_attr_t attributes;
@@ -99,14 +125,14 @@ int main(void) {
         while (*lowest == PAINT)
             lowest++;
         size_t used = (size_t)(call_begins - (uintptr_t)lowest);
-        printf("altuliscia_%-10s %6zu bytes of stack\n", names[which], used);
-        most = used > most ? used : most;
+        printf("altuliscia_%-15s %6zu bytes of stack\n", names[which], used);
+        over |= used > (which < ON_BYTES ? ALTULISCIA_STACK_BYTES : ALTULISCIA_TRAIN_STACK_BYTES);
         free(stack);
         if (accepted < RUNS / 2) {
             printf("only %d of %d calls were accepted\n", (int)accepted, RUNS);
             return 1;
         }
     }
-    printf("the header says %d at the most\n", ALTULISCIA_STACK_BYTES);
-    return most > ALTULISCIA_STACK_BYTES;
+    printf("the header says %d at the most, with doubles %d\n", ALTULISCIA_STACK_BYTES, ALTULISCIA_TRAIN_STACK_BYTES);
+    return over;
 }

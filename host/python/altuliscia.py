@@ -1,14 +1,14 @@
-"""The proved trainer of a sorter, for Python: the five functions of include/altuliscia.h.
+"""A support vector machine trainer that is proved to meet its contract, for Python: the five functions of include/altuliscia.h.
 
-It needs the library as a shared object, which is made on x86-64 from the archive at the root of the repository by
+`pip install ./host/python` at the root of the repository installs it with the library inside. Without an install this file needs the
+library as a shared object, which is made of the shipped archive, at the root of the repository, by
 
-    rt staticlib altuliscia
-    cc -shared -o target/staticlib/libaltuliscia.so \\
-        -Wl,--whole-archive target/staticlib/libaltuliscia.a -Wl,--no-whole-archive
+    mkdir -p target
+    cc -shared -o target/libaltuliscia.so \\
+        -Wl,--whole-archive lib/$(uname -m)/libaltuliscia.a -Wl,--no-whole-archive
 
-(on aarch64 of the archive that `tools/native target/native` writes, in target/native). It is looked for under the name that the
-environment variable ALTULISCIA_SO gives, else beside this file, else in target/native, else in target/staticlib. Nothing but
-Python's standard library is used.
+It is looked for under the name that the environment variable ALTULISCIA_SO gives, else beside this file, else in the repository's
+target, else in target/native, else in target/staticlib. Nothing but Python's standard library is used.
 
     >>> import altuliscia
     >>> fit = altuliscia.fit_c([[1, 0], [0, 1]], [1, 0])
@@ -42,6 +42,8 @@ import os
 import struct
 from array import array
 from itertools import compress
+
+__version__ = "1.0.0"
 
 MOST_SAMPLES = 512
 MOST_PASSES = 10_000_000
@@ -115,7 +117,8 @@ class Fit:
 
     def decision_function(self, rows):
         """For each row, the kernel values of one caption with every training sample: the sum over samples, in their order, of weight
-        times value, less rho. From 0 on it is the positive class. A value at a retired sample's place is passed over."""
+        times value, less rho. From 0 on it is the positive class. A value at a retired sample's place is passed over. The weights of
+        fit_general aren't signed by label, so after it this sum is no decision."""
         stands = [True] * len(self.home)
         for k in self.retired_:
             stands[k] = False
@@ -332,7 +335,7 @@ def _library():
         here = os.path.dirname(os.path.abspath(__file__))
         name = "libaltuliscia.so"
         target = os.path.join(here, "..", "..", "target")
-        folders = (here, os.path.join(target, "native"), os.path.join(target, "staticlib"))
+        folders = (here, target, os.path.join(target, "native"), os.path.join(target, "staticlib"))
         places = [os.path.join(folder, name) for folder in folders]
         places = [os.environ["ALTULISCIA_SO"]] if "ALTULISCIA_SO" in os.environ else places
         path = next((place for place in places if os.path.exists(place)), None)

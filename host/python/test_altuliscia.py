@@ -46,6 +46,11 @@ def told(fit):
     return bits(fit.home), bits(fit.crate_reading), bits(numbers), fit.n_iter_, fit.fit_status_, fit.support_, fit.retired_
 
 
+class Version(unittest.TestCase):
+    def test_it_is_the_repository_s(self):
+        self.assertEqual(altuliscia.__version__ + "\n", read("VERSION"))
+
+
 class Worked(unittest.TestCase):
     """The worked examples of the rule."""
 
@@ -179,7 +184,8 @@ class Refusals(Refused):
 
     def test_places_of_the_shared_object(self):
         words = " ".join(altuliscia.__doc__.split())
-        self.assertIn("ALTULISCIA_SO gives, else beside this file, else in target/native, else in target/staticlib.", words)
+        places = "else beside this file, else in the repository's target, else in target/native, else in target/staticlib."
+        self.assertIn("ALTULISCIA_SO gives, " + places, words)
         with mock.patch.dict(os.environ), mock.patch("os.path.exists", return_value=False), mock.patch("altuliscia._loaded", None):
             os.environ.pop("ALTULISCIA_SO", None)
             with self.assertRaises(OSError) as caught:
@@ -187,7 +193,7 @@ class Refusals(Refused):
         here = os.path.dirname(os.path.abspath(altuliscia.__file__))
         found = re.search(r"\((.*)\)", str(caught.exception)).group(1).split(", ")
         found = [os.path.relpath(path, here) for path in found]
-        places = ("", "../../target/native/", "../../target/staticlib/")
+        places = ("", "../../target/", "../../target/native/", "../../target/staticlib/")
         self.assertEqual(found, [place + "libaltuliscia.so" for place in places])
 
     def test_no_shared_object(self):
@@ -286,7 +292,7 @@ class Retired(Refused):
                 self.assertEqual([told(fit) for fit in problem.fits(shrinking=shrinking, retired=nobody)], plain)
         with mock.patch("altuliscia._called", wraps=altuliscia._called) as called:
             problem.fits(retired=[])
-        names = [call.args[0] for call in called.call_args_list]
+        names = [call[0][0] for call in called.call_args_list]
         self.assertEqual(names, ["altuliscia_c", "altuliscia_general", "altuliscia_general"])
         for fit in (*problem.fits(), fit_nu(IDENTITY, [1, 0]), fit_one_class(IDENTITY)):
             self.assertEqual(fit.retired_, [])

@@ -1,4 +1,5 @@
-//! The proved trainer of a sorter, for Rust: the five functions of `include/altuliscia.h` with types.
+//! A support vector machine trainer (SMO on a precomputed kernel: C, nu, one class) that is proved to meet its contract, for Rust: the
+//! five functions of `include/altuliscia.h` with types. This crate itself is tested, not proved.
 //!
 //! A problem is a kernel matrix with labels; a fit trains it and hands back an [`Answer`] or a [`Refusal`]. Nothing here panics,
 //! whatever is handed in. Calls keep no state, so they may be made from several threads at once.
@@ -6,16 +7,29 @@
 //! ```
 //! use altuliscia::{fit_c, ExitReason, Options, Problem};
 //!
-//! let problem = Problem {
-//!     matrix: &[1.0, 0.0, 0.0, 1.0],
-//!     labels: &[true, false],
-//! };
+//! let problem = Problem { matrix: &[1.0, 0.0, 0.0, 1.0], labels: &[true, false] };
 //! let answer = fit_c(&problem, 1.0, 1.0, &Options::default())?;
 //! assert_eq!(answer.home, [1.0, -1.0]);
 //! assert_eq!((answer.rho, answer.obj), (0.0, -1.0));
 //! assert_eq!((answer.iterations, answer.reason), (1, ExitReason::Threshold));
+//!
+//! // Something new, by its kernel values with the two samples.
+//! let values = [0.75, 0.25];
+//! let terms = answer.home.iter().zip(values).map(|(weight, value)| weight * value);
+//! let decision = terms.sum::<f64>() - answer.rho;
+//! assert_eq!((decision, decision >= 0.0), (0.5, true));
 //! # Ok::<(), altuliscia::Refusal>(())
 //! ```
+//!
+//! # How to use the answer
+//!
+//! The decision on something new is the sum over the samples of `home[s]` times its kernel value with sample s, less `rho`, as above.
+//! From 0 on it is positive ([`fit_one_class`]: of the class), else, NaN too, negative. The weights of [`fit_c`], [`fit_c_retired`] and
+//! [`fit_nu`] are signed by label. Those of [`fit_general`] and [`fit_retired`] aren't: there the terms of negative samples are taken
+//! away (an example is at [`fit_general`]). The kernel value of a retired sample has no say: its weight is 0, so hand in 0 or leave it
+//! out. Before an answer is used, see that its reason is [`ExitReason::Threshold`] and rho finite, and under nu r finite and not 0.
+//!
+//! # Refusals
 //!
 //! A bad input is refused before anything runs:
 //!
@@ -132,7 +146,7 @@ pub struct Answer {
     pub support: u64,
     /// What `linfa-svm` answers: place i has the weight at position order\[i\].
     pub crate_reading: Vec<f64>,
-    /// Each sample's own weight.
+    /// Each sample's own weight, its dual coefficient. The head of this page says how it is used.
     pub home: Vec<f64>,
 }
 
@@ -185,7 +199,8 @@ pub fn fit_one_class(samples: &OneClass, nu: f64, options: &Options) -> Result<A
     })
 }
 
-/// Trains a problem with every list given. The readings are the weights as they are: neither signed by label nor divided.
+/// Trains a problem with every list given. The readings are the weights as they are: neither signed by label nor divided. So a decision
+/// signs them:
 ///
 /// ```
 /// use altuliscia::{fit_general, General, Options, Problem};
@@ -199,6 +214,11 @@ pub fn fit_one_class(samples: &OneClass, nu: f64, options: &Options) -> Result<A
 /// };
 /// let answer = fit_general(&general, &Options::default())?;
 /// assert_eq!(answer.home, [1.0, 1.0]);
+///
+/// let values = [0.75, 0.25];
+/// let signs = general.problem.labels.iter().map(|&positive| if positive { 1.0 } else { -1.0 });
+/// let terms = answer.home.iter().zip(signs).zip(values).map(|((weight, sign), value)| weight * sign * value);
+/// assert_eq!(terms.sum::<f64>() - answer.rho, 0.5);
 /// # Ok::<(), altuliscia::Refusal>(())
 /// ```
 pub fn fit_general(general: &General, options: &Options) -> Result<Answer, Refusal> {

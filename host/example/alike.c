@@ -1,0 +1,147 @@
+/* Makes each drawn call twice, by altuliscia_train_X and by altuliscia_X, and compares what is returned and every byte that is written.
+ * Then what only the former can be handed. C99 and C++98. The exit status is 1 where anything differs. */
+#include "altuliscia.h"
+
+#include <stdio.h>
+#include <string.h>
+
+enum { MOST = 512, RUNS = 2000, FUNCTIONS = 5 };
+
+static double matrix[MOST * MOST], ceilings[MOST], alphas[MOST], linear[MOST];
+static uint8_t labels[MOST], retired[MOST];
+static uint64_t state;
+
+/* What a call writes. */
+struct written {
+    double crate_reading[MOST + 1], home[MOST + 1];
+    altuliscia_result result;
+    uint64_t returned;
+};
+static struct written with_doubles, with_bytes;
+
+static uint64_t below(uint64_t k) {
+    state = state * 6364136223846793005u + 1442695040888963407u;
+    return (state >> 33) % k;
+}
+
+/* Mostly a good number, at times one that is refused. */
+static double cost(void) {
+    static const double odd[] = {0, -1, 1e308, 0.5};
+    return below(12) ? (double)(1 + below(8)) / 4 : odd[below(4)];
+}
+
+static void fill(size_t n) {
+    static double points[MOST][2];
+    for (size_t k = 0; k < n; k++) {
+        points[k][0] = (double)below(9) - 4;
+        points[k][1] = (double)below(9) - 4;
+        labels[k] = (uint8_t)(below(150) ? below(2) : 2);
+        retired[k] = (uint8_t)(below(4) == 0);
+        ceilings[k] = 1 + (double)below(3);
+        alphas[k] = (double)below(2);
+        linear[k] = (double)below(9) - 4;
+    }
+    for (size_t c = 0; c < n; c++)
+        for (size_t r = 0; r < n; r++)
+            matrix[c * n + r] = points[c][0] * points[r][0] + points[c][1] * points[r][1];
+}
+
+#define READ(list) (const uint8_t *)(list)
+#define LISTS (uint8_t *)b->crate_reading, 8 * n, (uint8_t *)b->home, 8 * n, (uint8_t *)&b->result, 72
+
+static void call(int which, size_t n, double x, double y, double eps, uint64_t budget) {
+    struct written *a = &with_doubles, *b = &with_bytes;
+    double *crate = a->crate_reading;
+    size_t square = 8 * n * n, list = 8 * n;
+    uint64_t bx = altuliscia_bits(x), by = altuliscia_bits(y), be = altuliscia_bits(eps);
+    uint8_t on = (uint8_t)below(2), rule = (uint8_t)below(2);
+    switch (which) {
+    case 0:
+        a->returned = altuliscia_train_c(n, matrix, labels, x, y, eps, on, budget, crate, a->home, &a->result);
+        b->returned = altuliscia_c(n, READ(matrix), square, labels, n, bx, by, be, on, budget, LISTS);
+        break;
+    case 1:
+        a->returned = altuliscia_train_nu(n, matrix, labels, x, eps, on, budget, crate, a->home, &a->result);
+        b->returned = altuliscia_nu(n, READ(matrix), square, labels, n, bx, be, on, budget, LISTS);
+        break;
+    case 2:
+        a->returned = altuliscia_train_one_class(n, matrix, x, eps, on, budget, crate, a->home, &a->result);
+        b->returned = altuliscia_one_class(n, READ(matrix), square, bx, be, on, budget, LISTS);
+        break;
+    case 3:
+        a->returned = altuliscia_train_general(n, matrix, labels, ceilings, alphas, linear, rule, eps, on, budget, crate, a->home,
+                                               &a->result);
+        b->returned = altuliscia_general(n, READ(matrix), square, labels, n, READ(ceilings), list, READ(alphas), list, READ(linear),
+                                         list, rule, be, on, budget, LISTS);
+        break;
+    default:
+        a->returned = altuliscia_train_retired(n, matrix, labels, ceilings, alphas, linear, retired, rule, eps, budget, crate,
+                                               a->home, &a->result);
+        b->returned = altuliscia_retired(n, READ(matrix), square, labels, n, READ(ceilings), list, READ(alphas), list, READ(linear),
+                                         list, retired, n, rule, be, 0, budget, NULL, 0, LISTS);
+    }
+}
+
+/* Whether both wrote the same; the double behind the n-th is as it was. */
+static int alike(void) {
+    return with_doubles.returned == with_bytes.returned && memcmp(&with_doubles, &with_bytes, sizeof with_bytes) == 0;
+}
+
+static int drawn(void) {
+    int accepted = 0;
+    for (int k = 0; k < RUNS; k++) {
+        size_t n = k == 1 ? 0 : 1 + below(24);
+        if (k == 0)
+            n = MOST;
+        fill(n);
+        memset(&with_doubles, 0xa5, sizeof with_doubles);
+        memset(&with_bytes, 0xa5, sizeof with_bytes);
+        double x = cost(), y = cost(), eps = below(20) ? 0.001 : -1;
+        call(k % FUNCTIONS, n, x, y, eps, below(20) ? 1 + below(300) : 0);
+        if (!alike()) {
+            printf("run %d differs\n", k);
+            return 1;
+        }
+        accepted += with_bytes.returned == 0;
+    }
+    printf("%d calls alike, %s\n", RUNS, accepted > RUNS / 2 && accepted < RUNS ? "accepted and refused ones" : "too few of a kind");
+    return !(accepted > RUNS / 2 && accepted < RUNS);
+}
+
+static int failed;
+
+static void expect(const char *what, int holds) {
+    if (!holds)
+        printf("not so: %s\n", what);
+    failed |= !holds;
+}
+
+/* A list that isn't there, flags that don't fit a byte, more samples than there can be, rows with NaN beside a weight of 0. */
+static void odd(void) {
+    const double m[] = {1, 0, 0, 1}, d[] = {1, 1}, nan_row[] = {0.5, 0.0 / (m[1] + 0.0)};
+    const double weights[] = {2, 0}, both[] = {2, 3}, row[] = {0.5, 0.25};
+    const uint8_t y[] = {1, 0};
+    double home[2], crate[2];
+    altuliscia_result result;
+    expect("no matrix is 2", altuliscia_train_c(2, NULL, y, 1, 1, 0, 0, 10, NULL, home, &result) == 2 && result.refusal == 2);
+    expect("no labels is 2", altuliscia_train_c(2, m, NULL, 1, 1, 0, 0, 10, NULL, home, &result) == 2);
+    expect("no home is 2", altuliscia_train_nu(2, m, y, 1, 0, 0, 10, NULL, NULL, &result) == 2);
+    expect("no result is 2", altuliscia_train_one_class(2, m, 1, 0, 0, 10, NULL, home, NULL) == 2);
+    expect("no ceilings is 2", altuliscia_train_general(2, m, y, NULL, d, d, 0, 0, 0, 10, NULL, home, &result) == 2);
+    expect("no retired is 2", altuliscia_train_retired(2, m, y, d, d, d, NULL, 0, 0, 10, NULL, home, &result) == 2);
+    expect("513 is 1", altuliscia_train_c(513, m, y, 1, 1, 0, 0, 10, NULL, home, &result) == 1);
+    expect("2^63 is 1", altuliscia_train_c((size_t)1 << 63, m, y, 1, 1, 0, 0, 10, NULL, home, &result) == 1);
+    expect("without a crate's list", altuliscia_train_c(2, m, y, 1, 1, 0.001, 0, 10, NULL, home, &result) == 0 && home[0] == 1);
+    expect("with it", altuliscia_train_c(2, m, y, 1, 1, 0.001, 0, 10, crate, home, &result) == 0 && crate[1] == -1);
+    altuliscia_train_general(2, m, y, d, d, d, 256, 0, 0, 10, NULL, home, &result);
+    expect("a rule of 256 is on", result.refusal == 0 && result.has_r);
+    expect("a NaN beside 0", altuliscia_decide(2, weights, 0.25, nan_row) == 0.75);
+    expect("a NaN beside a weight", altuliscia_decide(2, both, 0.25, nan_row) != altuliscia_decide(2, both, 0.25, nan_row));
+    expect("signed by label", altuliscia_decide_by_label(2, both, y, 0.125, row) == 0.125);
+}
+
+int main(void) {
+    int differ = drawn();
+    odd();
+    return differ || failed;
+}
