@@ -251,8 +251,10 @@ static inline double altuliscia_decide(size_t n, const double *home, double rho,
     double sum = 0;
     size_t s;
     for (s = 0; s < n; s++)
-        if (home[s] != 0)
-            sum += home[s] * values[s];
+        if (home[s] != 0) {
+            volatile double term = home[s] * values[s]; /* rounded by itself: a compiler may not merge it with the sum */
+            sum += term;
+        }
     return sum - rho;
 }
 
@@ -262,8 +264,10 @@ static inline double altuliscia_decide_by_label(size_t n, const double *home, co
     double sum = 0;
     size_t s;
     for (s = 0; s < n; s++)
-        if (home[s] != 0)
-            sum += (labels[s] ? home[s] : -home[s]) * values[s];
+        if (home[s] != 0) {
+            volatile double term = (labels[s] ? home[s] : -home[s]) * values[s];
+            sum += term;
+        }
     return sum - rho;
 }
 
