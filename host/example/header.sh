@@ -63,6 +63,15 @@ ran() {
     "$made/alike" > "$made/told" || { cat "$made/told" && exit 1; }
 }
 
+# unmerged COMPILER LANGUAGE: no product of a decision is merged with its sum, though the processor could and the compiler may.
+unmerged() {
+    local fused=
+    [ "$(uname -m)" != x86_64 ] || fused=-mfma
+    tried=$((tried + 1))
+    "$1" -x "$2" -O3 $fused -ffp-contract=fast -Iinclude -S host/example/example.c -o "$made/code"
+    ! grep -E 'fn?m(add|sub|la|ls)' "$made/code" || { echo "merged by $1" && exit 1; }
+}
+
 known=
 for compiler in cc gcc clang c++ g++ clang++; do
     if ! command -v "$compiler" > /dev/null; then
@@ -81,6 +90,7 @@ for compiler in cc gcc clang c++ g++ clang++; do
         compiled $compiler $standard $language
         [ $# = 0 ] || [ $standard = c89 ] || ran $compiler $standard $language
     done
+    unmerged $compiler $language
 done
 if [ $# = 1 ]; then
     must cc -std=c99 -Wall -Wextra -Werror -Iinclude host/example/bytes.c "$archive" -o "$made/bytes"
