@@ -5,8 +5,8 @@ fn main() {
     println!("cargo:rerun-if-env-changed=ALTULISCIA_LIB");
     let arch = std::env::var("CARGO_CFG_TARGET_ARCH").unwrap();
     let root = std::env::var("CARGO_MANIFEST_DIR").unwrap();
-    let folder = std::env::var("ALTULISCIA_LIB")
-        .unwrap_or_else(|_| format!("{}/../../lib/{}", root, arch));
+    let folder =
+        std::env::var("ALTULISCIA_LIB").unwrap_or_else(|_| format!("{}/../../lib/{}", root, arch));
     let archive = format!("{}/libaltuliscia.a", folder);
     println!("cargo:rerun-if-changed={}", archive);
     if !Path::new(&archive).exists() {
