@@ -2,7 +2,7 @@
 #
 #   kit_made            the kit that they were made with, by its one-line identity
 #   needs_kit COMMAND   ends with a line that names the kit where there is none
-#   crates_changed      whether crates/ is known to be another than the one that they were made from
+#   crates_changed      whether the code under crates/ is known to be another than that of which they were made
 kit_made=$(sed -n 's/^kit //p' lib/MADE)
 
 needs_kit() {
@@ -13,7 +13,9 @@ needs_kit() {
 }
 
 crates_changed() {
-    local here
+    local here made
     here=$(git rev-parse -q --verify HEAD:crates 2> /dev/null) || return
-    [ "$here" != "$(sed -n 's/^crates //p' lib/MADE)" ] || ! git diff --quiet HEAD -- crates
+    made=$(sed -n 's/^crates //p' lib/MADE)
+    git diff --quiet HEAD -- ':(glob)crates/*/src/**' || return 0
+    [ "$here" != "$made" ] && ! git diff --quiet "$made" "$here" -- ':(glob)*/src/**' 2> /dev/null
 }
