@@ -17,5 +17,6 @@ crates_changed() {
     here=$(git rev-parse -q --verify HEAD:crates 2> /dev/null) || return
     made=$(sed -n 's/^crates //p' lib/MADE)
     git diff --quiet HEAD -- ':(glob)crates/*/src/**' || return 0
-    [ "$here" != "$made" ] && ! git diff --quiet "$made" "$here" -- ':(glob)*/src/**' 2> /dev/null
+    # a shallow clone needn't have that tree
+    git cat-file -e "$made" 2> /dev/null && ! git diff --quiet "$made" "$here" -- ':(glob)*/src/**'
 }
