@@ -46,6 +46,11 @@
 extern "C" {
 #endif
 
+/* The version of this header; altuliscia_version tells the library's. docs/STABLE.md has what stays as it is. */
+#define ALTULISCIA_VERSION_MAJOR 1
+#define ALTULISCIA_VERSION_MINOR 0
+#define ALTULISCIA_VERSION_PATCH 0
+
 /* The most samples and the largest budget that are accepted. */
 #define ALTULISCIA_MOST_SAMPLES 512
 #define ALTULISCIA_MOST_PASSES 10000000
@@ -150,6 +155,9 @@ uint64_t altuliscia_nu(size_t n, const uint8_t *matrix, size_t matrix_len, const
 uint64_t altuliscia_one_class(size_t n, const uint8_t *matrix, size_t matrix_len, uint64_t nu, uint64_t eps, uint8_t shrinking,
                               uint64_t budget, uint8_t *crate_reading, size_t crate_reading_len, uint8_t *home, size_t home_len,
                               uint8_t *answer, size_t answer_len);
+
+/* The version of the library that is linked: 10000*major + 100*minor + patch. */
+uint64_t altuliscia_version(void);
 
 #ifdef __cplusplus
 }

@@ -1,10 +1,10 @@
-# Sourced by `test`, `run` and `captions/table`: how what links an archive is built and run. The archives that `rt staticlib` writes are
-# for x86-64. On such a machine nothing is set. Elsewhere a cross compiler and an emulator are used, where they are there; and where
-# they are missing, on aarch64, archives of the same modules compiled for it (tools/native).
+# Sourced by `test` and `captions/table`: how what links an archive is built and run. On x86-64 nothing is set. Elsewhere the archive for
+# x86-64 is linked by a cross compiler and run by an emulator, where they are there; and where they are missing, on aarch64, that for aarch64.
 #
 #   links          yes where what links an archive can be built and run here, else no
-#   archives       the folder of the archives that are linked
-#   archive NAME   proves crate NAME and makes its archive
+#   link_arch      the processor that is linked for
+#   archives       the folder of the archives that are linked: the shipped one, until `archive` has made others
+#   archive NAME   proves crate NAME and makes its archive, in target/
 #   linked WORDS   runs a cargo command whose program links an archive
 #   link_cc        the C compiler
 #   link_run       what runs an x86-64 program; empty where the machine does, or its own code is linked
@@ -14,7 +14,7 @@ link_packages='gcc-x86-64-linux-gnu libc6-dev-amd64-cross qemu-user rustc libstd
 link_target=x86_64-unknown-linux-gnu
 link_tools=$(pwd)/tools/debian
 links=yes
-archives=$(pwd)/target/staticlib
+link_arch=x86_64
 link_cc=cc
 link_run=
 link_env=()
@@ -37,17 +37,19 @@ emulated() {
 
 if [ "$(uname -m)" != x86_64 ] && ! emulated; then
     if [ "$(uname -m)" = aarch64 ]; then
-        archives=$(pwd)/target/native
-        link_env=(ALTULISCIA_LIB="$archives")
+        link_arch=aarch64
     else
         links=no
     fi
 fi
 
-linked() { env ${link_env[@]+"${link_env[@]}"} "$@"; }
+archives=$(pwd)/lib/$link_arch
+
+linked() { env ALTULISCIA_LIB="$archives" ${link_env[@]+"${link_env[@]}"} "$@"; }
 
 archive() {
-    if [ "${archives##*/}" = native ]; then tools/native "$archives" "$1"; else rt staticlib "$1" > /dev/null; fi
+    archives=$(pwd)/target/made/$link_arch
+    tools/native "$archives" "$1" "$link_arch"
 }
 
 link_how="on Debian it is run after: dpkg --add-architecture amd64 && apt update && apt install $link_packages"
@@ -57,5 +59,5 @@ not_linked() {
 }
 
 not_emulated() {
-    [ "${archives##*/}" != native ] || echo "NOT RUN: the archive for x86-64 itself; the same modules compiled for this machine are linked; $link_how"
+    [ $link_arch = x86_64 ] || echo "NOT RUN: the archive for x86-64 itself; the same modules compiled for this machine are linked; $link_how"
 }

@@ -6,6 +6,7 @@ use borrow.Fn.World.{ArgsD, ResD}
 use borrow.Fn.Kinds.{endedOf}
 use denote.Triple.Clauses.{AtExit}
 use denote.Ref.{now}
+use Prim.Native.Nat.{ℕ}
 use Rattle.hosted.specs.Hosted.{Handed, handed}
 use Rattle.altuliscia.proofs.altuliscia_general.{signature as general-signature}
 use Rattle.altuliscia.proofs.altuliscia_general.Kinds as general-kinds
@@ -22,6 +23,9 @@ use Rattle.altuliscia.proofs.altuliscia_nu.Reads as nu-reads
 use Rattle.altuliscia.proofs.altuliscia_one_class.{signature as one-class-signature}
 use Rattle.altuliscia.proofs.altuliscia_one_class.Kinds as one-class-kinds
 use Rattle.altuliscia.proofs.altuliscia_one_class.Reads as one-class-reads
+use Rattle.altuliscia.proofs.altuliscia_version.{signature as version-signature}
+use Rattle.altuliscia.proofs.altuliscia_version.Kinds as version-kinds
+use Rattle.altuliscia.proofs.altuliscia_version.Reads as version-reads
 
 -- what a call answers and leaves
 abbrev general-left : (κs : Lfts 8) → ResD general-signature κs → AtExit (endedOf 8 general-kinds.ps general-kinds.r) κs → Handed
@@ -58,3 +62,7 @@ one-class-left κs r s = handed r (now (s .1 .1 .1 .1 .1 .1 .0)) (now (s .1 .1 .
 pub one-class-once : (κs : Lfts 4) (a : ArgsD one-class-signature κs) (r r' : ResD one-class-signature κs) (s s' : AtExit (endedOf 4 one-class-kinds.ps one-class-kinds.r) κs)
     → one-class-reads.Post κs a r s → one-class-reads.Post κs a r' s' → _≡_ {A = Handed} (one-class-left κs r s) (one-class-left κs r' s')
 one-class-once κs a r r' s s' p q = p ∙ sym q
+
+pub version-once : (κs : Lfts 0) (a : ArgsD version-signature κs) (r r' : ResD version-signature κs) (s s' : AtExit (endedOf 0 version-kinds.ps version-kinds.r) κs)
+    → version-reads.Post κs a r s → version-reads.Post κs a r' s' → _≡_ {A = ℕ} r r'
+version-once κs a r r' s s' p q = p ∙ sym q

@@ -73,3 +73,7 @@ oneClassHost n m nu eps shrinking budget cr h an =
     cr
     h
     an
+
+-- 10000·major + 100·minor + patch: 1.0.0
+abbrev pub version : ℕ
+version = 10000

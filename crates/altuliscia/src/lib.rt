@@ -2,7 +2,7 @@
 ghost use mathlib.Core.Path.{_≡_};
 ghost use Prim.Native.Nat.{ℕ};
 ghost use Rattle.hosted.specs.Hosted.{Handed, handed};
-ghost use Rattle.altuliscia.specs.Functions.{generalHost, retiredHost, cHost, nuHost, oneClassHost};
+ghost use Rattle.altuliscia.specs.Functions.{generalHost, retiredHost, cHost, nuHost, oneClassHost, version};
 
 // Labels l, ceilings c, start alphas a and linear term p.
 #[no_mangle]
@@ -197,4 +197,12 @@ pub extern "C" fn altuliscia_one_class(
     }
     hosted::turn_away(answer, s);
     s
+}
+
+// Which version this is.
+#[no_mangle]
+pub extern "C" fn altuliscia_version() -> u64
+    ensures { λ k. ⌜ _≡_ {A = ℕ} k version ⌝ }
+{
+    10000
 }
