@@ -32,7 +32,7 @@
  *
  * Threads and stack. A call keeps no state and shares nothing: calls from several threads may overlap in time. It asks for no
  * memory but its stack, of which it needs less than ALTULISCIA_STACK_BYTES (61575 were measured), and calls nothing from outside
- * but memset. Every call ends, after at most `budget` passes.
+ * but memset and memcpy. Every call ends, after at most `budget` passes.
  *
  * docs/BYTES.md has all of this at more length, with an answer in hex.
  */
