@@ -1,5 +1,5 @@
--- What a stop tells of the sums of the extremes, where the entries are of magnitude 2^1000 at the most: they are below eps, or none is above 0.
--- Assumes nothing.
+-- What a stop tells of the sums of the extremes, where the entries are of magnitude 2^1000 at the most: by them the rule stops, or none is
+-- above 0 (`stop-quiet`). Assumes nothing.
 use Prim.Native.Nat.{ℕ, _*_, _≤_, _<_}
 use mathlib.Core.Bool.{Bool, true, false, not, _&&_, Bool·beq, cond}
 use mathlib.Core.List.{List}
@@ -25,7 +25,7 @@ use Rattle.solver.specs.declared.Given.{Given}
 use Rattle.state.specs.Fields.{gradient, diagonal, row, positive}
 use Rattle.state.specs.Lists.{Problem, State}
 use Rattle.trace.specs.Rule.{Rises, Falls, NoPair}
-use Rattle.trace.proofs.Rule.{sumsBy, sum-by}
+use Rattle.trace.proofs.Rule.{sumsBy, sum-by, sums-are}
 use Rattle.wire.specs.Wire.{floatAt}
 use Rattle.boxrun.specs.Quiet.{Quiet}
 use Rattle.boxrun.proofs.Owned.{Owned, entry-diagonal, entry-row}
@@ -106,3 +106,7 @@ module _ (stands : ℕ → Bool) (g : Given) (m : List ℕ) (s : State) (a : ℕ
         each = sum-by stands g m s a (g .nu);
         tells = inr (λ t. unequal _ (not-above (g .nu) t none (sumsBy stands g m s a (g .nu) t) (sum-by stands g m s a (g .nu) t)));
       }
+
+-- the sums it speaks of are the extremes' own, to the bit: there is one Quiet
+pub quiet-sums : (stands : ℕ → Bool) (g : Given) (m : List ℕ) (s : State) (a : ℕ) (q : Quiet stands g m s a) (t : Bool) → sumsBy stands g m s a (g .nu) t ≡ q .sums t
+quiet-sums stands g m s a q t = sums-are stands g m s a (g .nu) t (q .sums t) (q .each t)

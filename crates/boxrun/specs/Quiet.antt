@@ -1,4 +1,4 @@
--- What a stop tells of the extremes, in one word: where the entries are of magnitude 2^1000 at the most, the rule's 'no second' says no more than this.
+-- What a stop tells of the extremes, where the entries are of magnitude 2^1000 at the most.
 use Prim.Native.Nat.{ℕ}
 use mathlib.Core.Bool.{Bool, true, false}
 use mathlib.Core.List.{List}
@@ -12,7 +12,7 @@ use Rattle.solver.specs.declared.Given.{Given}
 use Rattle.state.specs.Lists.{State}
 use Rattle.trace.specs.Rule.{Rises, Falls, isBelow}
 
--- the sums of the extremes are below eps, or none of them is above 0: at most 0, or NaN, of two infinities
+-- by the sums of the extremes the rule stops (under nu `max` passes over one that is NaN), or none of them is above 0: at most 0, or NaN
 pub record Quiet (stands : ℕ → Bool) (g : Given) (m : List ℕ) (s : State) (a : ℕ) : Type 0 where
   pub sums : Bool → Float
   pub each : (t : Bool) → Sum (problemOf g m) s (Rises stands g m s a (g .nu) t) (Falls stands g m s a (g .nu) t) (sums t)

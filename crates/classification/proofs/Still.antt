@@ -13,12 +13,7 @@ use Rattle.solver.specs.Pass.{chosen, rebuilt, shrunk, countedDown, stepped, lo
 use Rattle.solver.specs.Run.{Full, withRun, goes, counterAt, period}
 use Rattle.solver.specs.declared.Given.{Given}
 use Rattle.state.specs.Lists.{State}
-
--- the order and kernel indices are u, all n are active, and nothing was refused
-pub record Still (u : List ℕ) (n : ℕ) (w : Full) : Type 0 where
-  pub order : w .state .numbers ≡ u
-  pub active : w .run .active ≡ n
-  pub free : stuck (w .run .status) ≡ false
+use Rattle.classification.specs.Still.{Still}
 
 module _ (g : Given) (m : List ℕ) (b : List Float) (off : g .shrinking ≡ false) (u : List ℕ) where
   counted-still : (w : Full) → Still u (g .n) w → Still u (g .n) (countedDown g m w)

@@ -33,17 +33,17 @@ module _ (n : ℕ) (m l : List ℕ) (cost eps shrinking budget : ℕ) (cr h an :
   abbrev cK : Fit
   cK = cTrains n l cost cost eps shrinking
 
-  pub c-called-box : (t i : ℕ) → i < n → In (asFloat cost) (weightAfter cK m room t i)
+  pub c-called-box : (t i : ℕ) → i < n → In (asFloat cost) (weightAfter (cTrains n l cost cost eps shrinking) m room t i)
   c-called-box =
       let x = c-called n m l cost cost eps shrinking budget cr h an z in
       c-box n m l (asFloat cost) (asFloat eps) (isOn shrinking) budget room (x .0) (x .1) (ofBits-fits binary64 cost)
 
-  pub c-called-no-nan : (t i j : ℕ) → pairAfter cK m room t ≡ Pair i j → NotNan (deltaAfter cK m room t i j)
+  pub c-called-no-nan : (t i j : ℕ) → pairAfter (cTrains n l cost cost eps shrinking) m room t ≡ Pair i j → NotNan (deltaAfter (cTrains n l cost cost eps shrinking) m room t i j)
   c-called-no-nan =
       let x = c-called n m l cost cost eps shrinking budget cr h an z in
       c-no-nan n m l (asFloat cost) (asFloat eps) (isOn shrinking) budget room (x .0) (x .1) (ofBits-fits binary64 cost)
 
-  pub c-called-home-box : (s : ℕ) → s < n → In (asFloat cost) (lastLeft (stepsTaken cK m room budget) s (getD nothing s nan))
+  pub c-called-home-box : (s : ℕ) → s < n → In (asFloat cost) (lastLeft (stepsTaken (cTrains n l cost cost eps shrinking) m room budget) s (getD nothing s nan))
   c-called-home-box =
       let x = c-called n m l cost cost eps shrinking budget cr h an z in
       c-home-box n m l (asFloat cost) (asFloat eps) (isOn shrinking) budget room (x .0) (x .1) (ofBits-fits binary64 cost)
@@ -54,22 +54,22 @@ module _ (n : ℕ) (m l : List ℕ) (nu eps shrinking budget : ℕ) (cr h an : L
   abbrev nuK : Fit
   nuK = nuTrains n l nu eps shrinking
 
-  pub nu-called-travels : (t : ℕ) → Travelled n (λ s. getD l s 0) (λ s. getD nothing s nan) (after nuK m room t .state)
+  pub nu-called-travels : (t : ℕ) → Travelled n (λ s. getD l s 0) (λ s. getD nothing s nan) (after (nuTrains n l nu eps shrinking) m room t .state)
   nu-called-travels =
       let x = nu-called n m l nu eps shrinking budget cr h an z in
       nu-travels n m l (asFloat nu) (asFloat eps) (isOn shrinking) budget room (x .0) (x .1)
 
-  pub nu-called-box : (t i : ℕ) → i < n → In one (weightAfter nuK m room t i)
+  pub nu-called-box : (t i : ℕ) → i < n → In one (weightAfter (nuTrains n l nu eps shrinking) m room t i)
   nu-called-box =
       let x = nu-called n m l nu eps shrinking budget cr h an z in
       nu-box n m l (asFloat nu) (asFloat eps) (isOn shrinking) budget room (x .0) (x .1) (ofBits-fits binary64 nu)
 
-  pub nu-called-no-nan : (t i j : ℕ) → pairAfter nuK m room t ≡ Pair i j → NotNan (deltaAfter nuK m room t i j)
+  pub nu-called-no-nan : (t i j : ℕ) → pairAfter (nuTrains n l nu eps shrinking) m room t ≡ Pair i j → NotNan (deltaAfter (nuTrains n l nu eps shrinking) m room t i j)
   nu-called-no-nan =
       let x = nu-called n m l nu eps shrinking budget cr h an z in
       nu-no-nan n m l (asFloat nu) (asFloat eps) (isOn shrinking) budget room (x .0) (x .1) (ofBits-fits binary64 nu)
 
-  pub nu-called-home-box : (s : ℕ) → s < n → In one (lastLeft (stepsTaken nuK m room budget) s (getD (sharedTo (half (asFloat nu) n) l nothing n) s nan))
+  pub nu-called-home-box : (s : ℕ) → s < n → In one (lastLeft (stepsTaken (nuTrains n l nu eps shrinking) m room budget) s (getD (sharedTo (half (asFloat nu) n) l nothing n) s nan))
   nu-called-home-box =
       let x = nu-called n m l nu eps shrinking budget cr h an z in
       nu-home-box n m l (asFloat nu) (asFloat eps) (isOn shrinking) budget room (x .0) (x .1) (ofBits-fits binary64 nu)
@@ -80,22 +80,22 @@ module _ (n : ℕ) (m : List ℕ) (nu eps shrinking budget : ℕ) (cr h an : Lis
   abbrev oneClassK : Fit
   oneClassK = oneClassTrains n nu eps shrinking
 
-  pub one-class-called-travels : (t : ℕ) → Travelled n (λ s. getD (allPositive n) s 0) (λ s. getD nothing s nan) (after oneClassK m room t .state)
+  pub one-class-called-travels : (t : ℕ) → Travelled n (λ s. getD (allPositive n) s 0) (λ s. getD nothing s nan) (after (oneClassTrains n nu eps shrinking) m room t .state)
   one-class-called-travels =
       let x = one-class-called n m nu eps shrinking budget cr h an z in
       one-class-travels n m (asFloat nu) (asFloat eps) (isOn shrinking) budget room (x .0) (x .1)
 
-  pub one-class-called-box : (t i : ℕ) → i < n → In one (weightAfter oneClassK m room t i)
+  pub one-class-called-box : (t i : ℕ) → i < n → In one (weightAfter (oneClassTrains n nu eps shrinking) m room t i)
   one-class-called-box =
       let x = one-class-called n m nu eps shrinking budget cr h an z in
       one-class-box n m (asFloat nu) (asFloat eps) (isOn shrinking) budget room (x .0) (x .1) (ofBits-fits binary64 nu)
 
-  pub one-class-called-no-nan : (t i j : ℕ) → pairAfter oneClassK m room t ≡ Pair i j → NotNan (deltaAfter oneClassK m room t i j)
+  pub one-class-called-no-nan : (t i j : ℕ) → pairAfter (oneClassTrains n nu eps shrinking) m room t ≡ Pair i j → NotNan (deltaAfter (oneClassTrains n nu eps shrinking) m room t i j)
   one-class-called-no-nan =
       let x = one-class-called n m nu eps shrinking budget cr h an z in
       one-class-no-nan n m (asFloat nu) (asFloat eps) (isOn shrinking) budget room (x .0) (x .1) (ofBits-fits binary64 nu)
 
-  pub one-class-called-home-box : (s : ℕ) → s < n → In one (lastLeft (stepsTaken oneClassK m room budget) s (getD (oneClassTo (asFloat nu) n nothing n) s nan))
+  pub one-class-called-home-box : (s : ℕ) → s < n → In one (lastLeft (stepsTaken (oneClassTrains n nu eps shrinking) m room budget) s (getD (oneClassTo (asFloat nu) n nothing n) s nan))
   one-class-called-home-box =
       let x = one-class-called n m nu eps shrinking budget cr h an z in
       one-class-home-box n m (asFloat nu) (asFloat eps) (isOn shrinking) budget room (x .0) (x .1) (ofBits-fits binary64 nu)

@@ -155,7 +155,7 @@ module _ (n : ℕ) (m l c a p : List ℕ) (nurule eps shrinking budget : ℕ) (c
   abbrev generalW : Whole
   generalW = generalSized n m l (floatsOf c n) (floatsOf a n) (floatsOf p n) (isOn nurule) (asFloat eps) (isOn shrinking) budget room
 
-  pub general-ran : (byteSizes n (generalInputs n l c a p) m cr h an ≡ 0) × (generalJudged n m l (floatsOf c n) (floatsOf a n) (floatsOf p n) (asFloat eps) budget ≡ Fine) × Ran generalK m cr h an budget generalW (generalHost n m l c a p nurule eps shrinking budget cr h an)
+  pub general-ran : (byteSizes n (generalInputs n l c a p) m cr h an ≡ 0) × (generalJudged n m l (floatsOf c n) (floatsOf a n) (floatsOf p n) (asFloat eps) budget ≡ Fine) × Ran (generalTrains n l c a p nurule eps shrinking) m cr h an budget generalW (generalHost n m l c a p nurule eps shrinking budget cr h an)
   unfolding generalHost generalSized
   general-ran =
       ran generalK m cr h an budget (byteSizes n (generalInputs n l c a p) m cr h an) (generalJudged n m l (floatsOf c n) (floatsOf a n) (floatsOf p n) (asFloat eps) budget) refl
@@ -164,17 +164,18 @@ module _ (n : ℕ) (m l c a p : List ℕ) (nurule eps shrinking budget : ℕ) (c
       (λ q i e. general-sized-number n m l (floatsOf c n) (floatsOf a n) (floatsOf p n) (isOn nurule) (asFloat eps) (isOn shrinking) budget room q i e .0)
       z
 
-  pub general-gives : Gives generalK m budget (generalHost n m l c a p nurule eps shrinking budget cr h an)
+  pub general-gives : Gives (generalTrains n l c a p nurule eps shrinking) m budget (generalHost n m l c a p nurule eps shrinking budget cr h an)
   general-gives =
       let r = general-ran .2 in
       gives r (served-own-double (r .served) (λ i g. decoded-double c n i (r .served .room .most) g) (λ i g. decoded-double a n i (r .served .room .most) g) (r .out .answer) (r .out .accepted))
 
-  -- the training was accepted, and it is the fit's over the call's own room: so all that is promised of a fit holds. Not of the entry `generalOf`,
-  -- which asks for lists of n places: what is read from the bytes has 512
-  pub general-called : (x : Answer) × (generalW .out ≡ Accepted x) × Served generalK m budget room generalW
-  general-called = let r = general-ran .2 in (r .out .answer, r .out .accepted, r .served)
+  -- the training was accepted, and its answer is what is written: said of `generalSized`, since the entry `generalOf` asks for lists of n places, and what
+  -- is read from the bytes has 512
+  pub general-called : (x : Answer) × (generalSized n m l (floatsOf c n) (floatsOf a n) (floatsOf p n) (isOn nurule) (asFloat eps) (isOn shrinking) budget room .out ≡ Accepted x)
+      × (generalHost n m l c a p nurule eps shrinking budget cr h an .answer ≡ answeredBy (Accepted x) an)
+  general-called = let r = general-ran .2 in (r .out .answer, r .out .accepted, r .out .told)
 
-  pub general-called-travels : (t : ℕ) → Travelled n (λ s. getD l s 0) (λ s. getD (floatsOf p n) s nan) (after generalK m room t .state)
+  pub general-called-travels : (t : ℕ) → Travelled n (λ s. getD l s 0) (λ s. getD (floatsOf p n) s nan) (after (generalTrains n l c a p nurule eps shrinking) m room t .state)
   general-called-travels = served-travels (general-ran .2 .served)
 
   -- the box, where every lent ceiling is b
@@ -185,13 +186,13 @@ module _ (n : ℕ) (m l c a p : List ℕ) (nurule eps shrinking budget : ℕ) (c
         general-common n m l (floatsOf c n) (floatsOf a n) (floatsOf p n) (isOn nurule) (asFloat eps) (isOn shrinking) budget (r .2 .served .room .some) (r .1) b fit same
         (λ i g. decoded-double a n i (r .2 .served .room .most) g)
 
-    pub general-called-box : (t i : ℕ) → i < n → In b (weightAfter generalK m room t i)
+    pub general-called-box : (t i : ℕ) → i < n → In b (weightAfter (generalTrains n l c a p nurule eps shrinking) m room t i)
     general-called-box = served-box (general-ran .2 .served) one-b
 
-    pub general-called-no-nan : (t i j : ℕ) → pairAfter generalK m room t ≡ Pair i j → NotNan (deltaAfter generalK m room t i j)
+    pub general-called-no-nan : (t i j : ℕ) → pairAfter (generalTrains n l c a p nurule eps shrinking) m room t ≡ Pair i j → NotNan (deltaAfter (generalTrains n l c a p nurule eps shrinking) m room t i j)
     general-called-no-nan = served-no-nan (general-ran .2 .served) one-b
 
-    pub general-called-home-box : (s : ℕ) → s < n → In b (lastLeft (stepsTaken generalK m room budget) s (getD (floatsOf a n) s nan))
+    pub general-called-home-box : (s : ℕ) → s < n → In b (lastLeft (stepsTaken (generalTrains n l c a p nurule eps shrinking) m room budget) s (getD (floatsOf a n) s nan))
     general-called-home-box = served-home-box (general-ran .2 .served) one-b
 
 module _ (n : ℕ) (m l : List ℕ) (cpos cneg eps shrinking budget : ℕ) (cr h an : List ℕ) (z : cHost n m l cpos cneg eps shrinking budget cr h an .code ≡ 0) where
@@ -201,7 +202,7 @@ module _ (n : ℕ) (m l : List ℕ) (cpos cneg eps shrinking budget : ℕ) (cr h
   abbrev cW : Whole
   cW = fitCSized n m l (asFloat cpos) (asFloat cneg) (asFloat eps) (isOn shrinking) budget room
 
-  pub c-ran : (byteSizes n (eqb (length l) n) m cr h an ≡ 0) × (cJudged n m l (asFloat cpos) (asFloat cneg) (asFloat eps) budget ≡ Fine) × Ran cK m cr h an budget cW (cHost n m l cpos cneg eps shrinking budget cr h an)
+  pub c-ran : (byteSizes n (eqb (length l) n) m cr h an ≡ 0) × (cJudged n m l (asFloat cpos) (asFloat cneg) (asFloat eps) budget ≡ Fine) × Ran (cTrains n l cpos cneg eps shrinking) m cr h an budget cW (cHost n m l cpos cneg eps shrinking budget cr h an)
   unfolding cHost fitCSized
   c-ran =
       ran cK m cr h an budget (byteSizes n (eqb (length l) n) m cr h an) (cJudged n m l (asFloat cpos) (asFloat cneg) (asFloat eps) budget) refl
@@ -210,7 +211,7 @@ module _ (n : ℕ) (m l : List ℕ) (cpos cneg eps shrinking budget : ℕ) (cr h
       (λ q i e. c-sized-number n m l (asFloat cpos) (asFloat cneg) (asFloat eps) (isOn shrinking) budget room q i e .0)
       z
 
-  pub c-gives : Gives cK m budget (cHost n m l cpos cneg eps shrinking budget cr h an)
+  pub c-gives : Gives (cTrains n l cpos cneg eps shrinking) m budget (cHost n m l cpos cneg eps shrinking budget cr h an)
   c-gives =
       let r = c-ran .2 in
       let most = r .served .room .most in
@@ -219,13 +220,14 @@ module _ (n : ℕ) (m l : List ℕ) (cpos cneg eps shrinking budget : ℕ) (cr h
       (λ i g. rw (getD-replicate 512 i Weight.zero nan (omega (arith, most))) (ofBits-fits binary64 0))
       (r .out .answer) (r .out .accepted))
 
-  -- the entry accepts, so all that is promised of it holds
+  -- the entry accepts, so all that is promised of it holds; and its answer is what is written
   pub c-called : (x : Answer) × (fitCOf n m l (asFloat cpos) (asFloat cneg) (asFloat eps) (isOn shrinking) budget room .out ≡ Accepted x)
+      × (cHost n m l cpos cneg eps shrinking budget cr h an .answer ≡ answeredBy (Accepted x) an)
   unfolding fitCOf
   c-called =
       let r = c-ran in
       let i = inputs-right n (eqb (length l) n) (length m) (length cr) (length h) (length an) (r .0) in
-      (r .2 .out .answer, ap (λ (q : Whole). q .out) (let-in n (eqb (length l) n) _ _ _ _ _ _ cW room i (r .2 .served .room)) ∙ r .2 .out .accepted)
+      (r .2 .out .answer, ap (λ (q : Whole). q .out) (let-in n (eqb (length l) n) _ _ _ _ _ _ cW room i (r .2 .served .room)) ∙ r .2 .out .accepted, r .2 .out .told)
 
 module _ (n : ℕ) (m l : List ℕ) (nu eps shrinking budget : ℕ) (cr h an : List ℕ) (z : nuHost n m l nu eps shrinking budget cr h an .code ≡ 0) where
   abbrev nuK : Fit
@@ -234,7 +236,7 @@ module _ (n : ℕ) (m l : List ℕ) (nu eps shrinking budget : ℕ) (cr h an : L
   abbrev nuW : Whole
   nuW = fitNuSized n m l (asFloat nu) (asFloat eps) (isOn shrinking) budget room
 
-  pub nu-ran : (byteSizes n (eqb (length l) n) m cr h an ≡ 0) × (nuJudged n m l (asFloat nu) (asFloat eps) budget ≡ Fine) × Ran nuK m cr h an budget nuW (nuHost n m l nu eps shrinking budget cr h an)
+  pub nu-ran : (byteSizes n (eqb (length l) n) m cr h an ≡ 0) × (nuJudged n m l (asFloat nu) (asFloat eps) budget ≡ Fine) × Ran (nuTrains n l nu eps shrinking) m cr h an budget nuW (nuHost n m l nu eps shrinking budget cr h an)
   unfolding nuHost fitNuSized
   nu-ran =
       ran nuK m cr h an budget (byteSizes n (eqb (length l) n) m cr h an) (nuJudged n m l (asFloat nu) (asFloat eps) budget) refl
@@ -243,15 +245,16 @@ module _ (n : ℕ) (m l : List ℕ) (nu eps shrinking budget : ℕ) (cr h an : L
       (λ q i e. nu-sized-number n m l (asFloat nu) (asFloat eps) (isOn shrinking) budget room q i e .0)
       z
 
-  -- the entry accepts, so all that is promised of it holds
+  -- the entry accepts, so all that is promised of it holds; and its answer is what is written
   pub nu-called : (x : Answer) × (fitNuOf n m l (asFloat nu) (asFloat eps) (isOn shrinking) budget room .out ≡ Accepted x)
+      × (nuHost n m l nu eps shrinking budget cr h an .answer ≡ answeredBy (Accepted x) an)
   unfolding fitNuOf
   nu-called =
       let r = nu-ran in
       let i = inputs-right n (eqb (length l) n) (length m) (length cr) (length h) (length an) (r .0) in
-      (r .2 .out .answer, ap (λ (q : Whole). q .out) (let-in n (eqb (length l) n) _ _ _ _ _ _ nuW room i (r .2 .served .room)) ∙ r .2 .out .accepted)
+      (r .2 .out .answer, ap (λ (q : Whole). q .out) (let-in n (eqb (length l) n) _ _ _ _ _ _ nuW room i (r .2 .served .room)) ∙ r .2 .out .accepted, r .2 .out .told)
 
-  pub nu-gives : Gives nuK m budget (nuHost n m l nu eps shrinking budget cr h an)
+  pub nu-gives : Gives (nuTrains n l nu eps shrinking) m budget (nuHost n m l nu eps shrinking budget cr h an)
   nu-gives =
       gives (nu-ran .2) (λ s g. coefficient-doubled (nuK .how) _ (rOf nuK m room budget) _
       (nu-home-box n m l (asFloat nu) (asFloat eps) (isOn shrinking) budget room (nu-called .0) (nu-called .1) (ofBits-fits binary64 nu) s g .number .fit))
@@ -263,7 +266,7 @@ module _ (n : ℕ) (m : List ℕ) (nu eps shrinking budget : ℕ) (cr h an : Lis
   abbrev oneClassW : Whole
   oneClassW = fitOneClassSized n m (asFloat nu) (asFloat eps) (isOn shrinking) budget room
 
-  pub one-class-ran : (byteSizes n true m cr h an ≡ 0) × (oneClassJudged n m (asFloat nu) (asFloat eps) budget ≡ Fine) × Ran oneClassK m cr h an budget oneClassW (oneClassHost n m nu eps shrinking budget cr h an)
+  pub one-class-ran : (byteSizes n true m cr h an ≡ 0) × (oneClassJudged n m (asFloat nu) (asFloat eps) budget ≡ Fine) × Ran (oneClassTrains n nu eps shrinking) m cr h an budget oneClassW (oneClassHost n m nu eps shrinking budget cr h an)
   unfolding oneClassHost fitOneClassSized
   one-class-ran =
       ran oneClassK m cr h an budget (byteSizes n true m cr h an) (oneClassJudged n m (asFloat nu) (asFloat eps) budget) refl
@@ -272,15 +275,16 @@ module _ (n : ℕ) (m : List ℕ) (nu eps shrinking budget : ℕ) (cr h an : Lis
       (λ q i e. one-class-sized-number n m (asFloat nu) (asFloat eps) (isOn shrinking) budget room q i e .0)
       z
 
-  -- the entry accepts, so all that is promised of it holds
+  -- the entry accepts, so all that is promised of it holds; and its answer is what is written
   pub one-class-called : (x : Answer) × (fitOneClassOf n m (asFloat nu) (asFloat eps) (isOn shrinking) budget room .out ≡ Accepted x)
+      × (oneClassHost n m nu eps shrinking budget cr h an .answer ≡ answeredBy (Accepted x) an)
   unfolding fitOneClassOf
   one-class-called =
       let r = one-class-ran in
       let i = inputs-right n true (length m) (length cr) (length h) (length an) (r .0) in
-      (r .2 .out .answer, ap (λ (q : Whole). q .out) (let-in n true _ _ _ _ _ _ oneClassW room i (r .2 .served .room)) ∙ r .2 .out .accepted)
+      (r .2 .out .answer, ap (λ (q : Whole). q .out) (let-in n true _ _ _ _ _ _ oneClassW room i (r .2 .served .room)) ∙ r .2 .out .accepted, r .2 .out .told)
 
-  pub one-class-gives : Gives oneClassK m budget (oneClassHost n m nu eps shrinking budget cr h an)
+  pub one-class-gives : Gives (oneClassTrains n nu eps shrinking) m budget (oneClassHost n m nu eps shrinking budget cr h an)
   one-class-gives =
       gives (one-class-ran .2) (λ s g. coefficient-doubled (oneClassK .how) _ (rOf oneClassK m room budget) _
       (one-class-home-box n m (asFloat nu) (asFloat eps) (isOn shrinking) budget room (one-class-called .0) (one-class-called .1) (ofBits-fits binary64 nu) s g .number .fit))

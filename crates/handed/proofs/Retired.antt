@@ -18,7 +18,7 @@ use Rattle.answer.specs.declared.Answer.{Answer}
 use Rattle.answer.specs.declared.Outcome.the-variants.{Accepted}
 use Rattle.boxed.specs.Range.{In}
 use Rattle.extreme.specs.declared.Choice.the-variants.{Pair}
-use Rattle.hosted.specs.Hosted.{floatsOf, room, Handed, handed, delivered, turnedAway, hostedBy}
+use Rattle.hosted.specs.Hosted.{floatsOf, room, Handed, handed, delivered, turnedAway, hostedBy, answeredBy}
 use Rattle.hosted.proofs.Serves.{Serves, inputs-right, serves}
 use Rattle.promises.specs.Fit.{Fit, weightAfter}
 use Rattle.promises.specs.Retired.{retiredFit, silentFit, afterOver, weightOver, pairOver, deltaOver, stepsOver, ownOver}
@@ -75,9 +75,9 @@ module _ (n : ℕ) (m l c a p r : List ℕ) (nurule eps shrinking budget : ℕ) 
   pub retired-called-untuned : length t ≡ 0
   retired-called-untuned = eqb-true (length t) 0 (both (generalInputs n l c a p && eqb (length r) n) (tuningKnown t) (inputs-right n inputs (length m) (length cr) (length h) (length an) (in-time .0)) .1)
 
-  -- the training was accepted
-  pub retired-called : (z : Answer) × (w .out ≡ Accepted z)
-  retired-called = (out .answer, out .accepted)
+  -- the training was accepted, and its answer is what is written
+  pub retired-called : (z : Answer) × (w .out ≡ Accepted z) × (o .answer ≡ answeredBy (Accepted z) an)
+  retired-called = (out .answer, out .accepted, out .told)
 
   -- so all that is promised of one holds
   pub called-taken : Taken n r (isOn nurule) (asFloat eps) (isOn shrinking) budget room x w
@@ -103,10 +103,6 @@ module _ (n : ℕ) (m l c a p r : List ℕ) (nurule eps shrinking budget : ℕ) 
         ∙ ap (λ (y : Float). toBits binary64 y % 256 ^ 8) (taken-alike called-taken s g)
         ∙ sym (home-at s g);
   }
-
-  -- its iterations are its steps
-  pub retired-called-iterations : (retired-called .0 .iterations ≡ length (stepsOver (standsIn r) k m room budget)) × (retired-called .0 .iterations ≤ budget)
-  retired-called-iterations = taken-iterations called-taken (retired-called .0) (retired-called .1)
 
   -- both samples of a pair stand, and the code's run has the same weights after each pass
   pub retired-called-pairs : (q i j : ℕ) → pairOver (standsIn r) k m room q ≡ Pair i j → ((i < n) × (standsIn r i ≡ true)) × ((j < n) × (standsIn r j ≡ true))

@@ -18,12 +18,14 @@ use Rattle.boxed.proofs.Step.{floor-divides}
 use Rattle.hosted.specs.Hosted.{floatsOf, room, Handed, answeredBy}
 use Rattle.judge.proofs.Accepted.{general-fine, c-fine, nu-fine, one-class-fine}
 use Rattle.promises.specs.Fit.{Fit, Counts}
-use Rattle.promises.specs.Retired.{retiredFit}
+use Rattle.promises.specs.Retired.{retiredFit, stepsOver}
 use Rattle.promises.specs.Threshold.{Threshold, ThresholdOver}
 use Rattle.promises.proofs.Box.{entries-in}
 use Rattle.promises.proofs.Iterations.{served-iterations}
+use Rattle.promises.proofs.Retired.{taken-iterations}
 use Rattle.promises.proofs.Threshold.{served-threshold, taken-threshold}
 use Rattle.retired.specs.Entry.{standsIn}
+use Rattle.retired.proofs.Independent.{taken-usable}
 use Rattle.wire.specs.Wire.{digits, floatAt}
 use Rattle.handed.specs.Gives.{decoded}
 use Rattle.handed.specs.Trains.{generalTrains, cTrains, nuTrains, oneClassTrains}
@@ -94,6 +96,15 @@ module _ (n : ℕ) (m : List ℕ) (nu eps shrinking budget : ℕ) (cr h an : Lis
       ran-threshold (r .2) (entries-in n m (one-class-fine n m (asFloat nu) (asFloat eps) budget (r .1) .matrix)) floor-divides
 
 module _ (n : ℕ) (m l c a p r : List ℕ) (nurule eps shrinking budget : ℕ) (t cr h an : List ℕ) (z : retiredHost n m l c a p r nurule eps shrinking budget t cr h an .code ≡ 0) where
+  pub retired-called-iterations : (digits (retiredHost n m l c a p r nurule eps shrinking budget t cr h an .answer) 48 8 ≡ length (stepsOver (standsIn r) (retiredFit n (decoded n m l c a p) r (isOn nurule) (asFloat eps)) m room budget))
+      × (digits (retiredHost n m l c a p r nurule eps shrinking budget t cr h an .answer) 48 8 ≤ budget)
+  retired-called-iterations =
+      let v = out n m l c a p r nurule eps shrinking budget t cr h an z in
+      let w = called-taken n m l c a p r nurule eps shrinking budget t cr h an z in
+      let d = taken-iterations w (v .answer) (v .accepted) in
+      let q = ap (λ (b : List ℕ). digits b 48 8) (v .told) ∙ count-told (v .answer) an (answer-long n m l c a p r nurule eps shrinking budget t cr h an z) (omega (arith, d .1, taken-usable w .budget-most)) in
+      (q ∙ d .0, omega (arith, d .1))
+
   pub retired-called-threshold : digits (retiredHost n m l c a p r nurule eps shrinking budget t cr h an .answer) 56 8 ≡ 0
       → ThresholdOver (standsIn r) (retiredFit n (decoded n m l c a p) r (isOn nurule) (asFloat eps)) m room budget
   retired-called-threshold q =

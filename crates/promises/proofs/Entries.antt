@@ -47,17 +47,17 @@ module _ (n : ℕ) (m l : List ℕ) (c a p : List Float) (nurule : Bool) (eps : 
   pub general-judged : generalJudged n m l c a p eps budget ≡ Fine
   general-judged = general-decided .0
 
-  pub general-served : Served generalK m budget d (generalOf n m l c a p nurule eps shrinking budget d)
+  pub general-served : Served (generalFit n l c a p nurule eps shrinking) m budget d (generalOf n m l c a p nurule eps shrinking budget d)
   general-served =
       let r = room-of n (eqb (length l) n && eqb (length c) n && eqb (length a) n && eqb (length p) n) (length m) (length (d .crate)) (length (d .home)) (length (d .floats)) (length (d .numbers)) (length (d .bytes)) (general-entered .0) in
       record { square = refl; room = r; usable = usable-general n m budget (r .most) (r .matrix) l c a p eps general-judged; same = general-entered .1 ∙ general-decided .1 }
 
   -- what home answers for sample s
-  pub general-home : (s : ℕ) → s < n → getD (generalOf n m l c a p nurule eps shrinking budget d .left .home) s nan ≡ ownWeight generalK m d budget s
+  pub general-home : (s : ℕ) → s < n → getD (generalOf n m l c a p nurule eps shrinking budget d .left .home) s nan ≡ ownWeight (generalFit n l c a p nurule eps shrinking) m d budget s
   general-home = served-home general-served x e
 
   -- after each number of passes
-  pub general-travels : (t : ℕ) → Travelled n (λ s. getD l s 0) (λ s. getD p s nan) (after generalK m d t .state)
+  pub general-travels : (t : ℕ) → Travelled n (λ s. getD l s 0) (λ s. getD p s nan) (after (generalFit n l c a p nurule eps shrinking) m d t .state)
   general-travels = served-travels general-served
 
 -- ---- C
@@ -78,17 +78,17 @@ module _ (n : ℕ) (m l : List ℕ) (cpos cneg eps : Float) (shrinking : Bool) (
   pub c-judged : cJudged n m l cpos cneg eps budget ≡ Fine
   c-judged = c-decided .0
 
-  pub c-served : Served cK m budget d (fitCOf n m l cpos cneg eps shrinking budget d)
+  pub c-served : Served (cFit n l cpos cneg eps shrinking) m budget d (fitCOf n m l cpos cneg eps shrinking budget d)
   c-served =
       let r = room-of n (eqb (length l) n) (length m) (length (d .crate)) (length (d .home)) (length (d .floats)) (length (d .numbers)) (length (d .bytes)) (c-entered .0) in
       record { square = refl; room = r; usable = usable-c n m budget (r .most) (r .matrix) l cpos cneg eps c-judged; same = c-entered .1 ∙ c-decided .1 }
 
   -- what home answers for sample s
-  pub c-home : (s : ℕ) → s < n → getD (fitCOf n m l cpos cneg eps shrinking budget d .left .home) s nan ≡ ownWeight cK m d budget s
+  pub c-home : (s : ℕ) → s < n → getD (fitCOf n m l cpos cneg eps shrinking budget d .left .home) s nan ≡ ownWeight (cFit n l cpos cneg eps shrinking) m d budget s
   c-home = served-home c-served x e
 
   -- after each number of passes
-  pub c-travels : (t : ℕ) → Travelled n (λ s. getD l s 0) (λ s. getD (evenly minusOne n) s nan) (after cK m d t .state)
+  pub c-travels : (t : ℕ) → Travelled n (λ s. getD l s 0) (λ s. getD (evenly minusOne n) s nan) (after (cFit n l cpos cneg eps shrinking) m d t .state)
   c-travels = served-travels c-served
 
 -- ---- nu
@@ -109,17 +109,17 @@ module _ (n : ℕ) (m l : List ℕ) (nu eps : Float) (shrinking : Bool) (budget 
   pub nu-judged : nuJudged n m l nu eps budget ≡ Fine
   nu-judged = nu-decided .0
 
-  pub nu-served : Served nuK m budget d (fitNuOf n m l nu eps shrinking budget d)
+  pub nu-served : Served (nuFit n l nu eps shrinking) m budget d (fitNuOf n m l nu eps shrinking budget d)
   nu-served =
       let r = room-of n (eqb (length l) n) (length m) (length (d .crate)) (length (d .home)) (length (d .floats)) (length (d .numbers)) (length (d .bytes)) (nu-entered .0) in
       record { square = refl; room = r; usable = usable-nu n m budget (r .most) (r .matrix) l nu eps nu-judged; same = nu-entered .1 ∙ nu-decided .1 }
 
   -- what home answers for sample s
-  pub nu-home : (s : ℕ) → s < n → getD (fitNuOf n m l nu eps shrinking budget d .left .home) s nan ≡ ownWeight nuK m d budget s
+  pub nu-home : (s : ℕ) → s < n → getD (fitNuOf n m l nu eps shrinking budget d .left .home) s nan ≡ ownWeight (nuFit n l nu eps shrinking) m d budget s
   nu-home = served-home nu-served x e
 
   -- after each number of passes
-  pub nu-travels : (t : ℕ) → Travelled n (λ s. getD l s 0) (λ s. getD nothing s nan) (after nuK m d t .state)
+  pub nu-travels : (t : ℕ) → Travelled n (λ s. getD l s 0) (λ s. getD nothing s nan) (after (nuFit n l nu eps shrinking) m d t .state)
   nu-travels = served-travels nu-served
 
 -- ---- one-class
@@ -140,15 +140,15 @@ module _ (n : ℕ) (m : List ℕ) (nu eps : Float) (shrinking : Bool) (budget : 
   pub one-class-judged : oneClassJudged n m nu eps budget ≡ Fine
   one-class-judged = one-class-decided .0
 
-  pub one-class-served : Served oneClassK m budget d (fitOneClassOf n m nu eps shrinking budget d)
+  pub one-class-served : Served (oneClassFit n nu eps shrinking) m budget d (fitOneClassOf n m nu eps shrinking budget d)
   one-class-served =
       let r = room-of n (true) (length m) (length (d .crate)) (length (d .home)) (length (d .floats)) (length (d .numbers)) (length (d .bytes)) (one-class-entered .0) in
       record { square = refl; room = r; usable = usable-one-class n m budget (r .most) (r .matrix) nu eps one-class-judged; same = one-class-entered .1 ∙ one-class-decided .1 }
 
   -- what home answers for sample s
-  pub one-class-home : (s : ℕ) → s < n → getD (fitOneClassOf n m nu eps shrinking budget d .left .home) s nan ≡ ownWeight oneClassK m d budget s
+  pub one-class-home : (s : ℕ) → s < n → getD (fitOneClassOf n m nu eps shrinking budget d .left .home) s nan ≡ ownWeight (oneClassFit n nu eps shrinking) m d budget s
   one-class-home = served-home one-class-served x e
 
   -- after each number of passes
-  pub one-class-travels : (t : ℕ) → Travelled n (λ s. getD (allPositive n) s 0) (λ s. getD nothing s nan) (after oneClassK m d t .state)
+  pub one-class-travels : (t : ℕ) → Travelled n (λ s. getD (allPositive n) s 0) (λ s. getD nothing s nan) (after (oneClassFit n nu eps shrinking) m d t .state)
   one-class-travels = served-travels one-class-served

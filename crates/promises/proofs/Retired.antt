@@ -17,7 +17,7 @@ use Rattle.fits.proofs.Loaded.{ready-loaded, sample-loaded, index-loaded, label
 use Rattle.kernel.specs.declared.Kind.the-variants.{TwoClass}
 use Rattle.readings.specs.Order.{weightIn, Perm}
 use Rattle.readings.proofs.Order.{crate-at, home-at}
-use Rattle.retired.specs.Coded.{silenced}
+use Rattle.retired.specs.Silenced.{silenced}
 use Rattle.retired.specs.Differ.{Input}
 use Rattle.retired.specs.Entry.{standsIn, kept, answeredOver, fittedOver}
 use Rattle.retired.proofs.Coded.{going, silent-alike}
@@ -32,9 +32,8 @@ use Rattle.standing.proofs.Sample.{pair-stands, runs-count, traced-few, told-ov
 use Rattle.state.specs.Fields.{gradient, alpha, sample}
 use Rattle.state.specs.Lists.{Ready, State}
 use Rattle.trace.specs.Trace.{startOf}
-use Rattle.travel.specs.Home.{lastLeft}
+use Rattle.travel.specs.Home.{lastLeft, Told}
 use Rattle.travel.specs.Travel.{Fresh, Travelled}
-use Rattle.travel.proofs.Home.{Told}
 use Rattle.promises.specs.Fit.{Fit, startFrom, after, weightAfter}
 use Rattle.promises.specs.Retired.{retiredFit, silentFit, afterOver, weightOver, pairOver, stepsOver, ownOver}
 

@@ -23,7 +23,7 @@ use Rattle.judge.proofs.Accepted.{GeneralFine, general-fine, alpha-within}
 use Rattle.judge.proofs.First.{first-fine}
 use Rattle.kernel.specs.Curvature.{curved}
 use Rattle.kernel.specs.declared.Kind.the-variants.{TwoClass}
-use Rattle.retired.specs.Coded.{silenced}
+use Rattle.retired.specs.Silenced.{silenced}
 use Rattle.retired.specs.Differ.{Input, DifferRetired}
 use Rattle.retired.specs.Entry.{standsIn, keptTo, kept}
 use Rattle.retired.proofs.Coded.{silenced-place, going}

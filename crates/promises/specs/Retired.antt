@@ -10,7 +10,7 @@ use Rattle.boxed.specs.Delta.{deltaAt}
 use Rattle.classification.specs.Entries.{givenOf}
 use Rattle.extreme.specs.declared.Choice.{Choice}
 use Rattle.kernel.specs.declared.Kind.the-variants.{TwoClass}
-use Rattle.retired.specs.Coded.{silenced}
+use Rattle.retired.specs.Silenced.{silenced}
 use Rattle.retired.specs.Differ.{Input}
 use Rattle.retired.specs.Entry.{kept}
 use Rattle.solver.specs.Run.{problemOf, Full}

@@ -43,7 +43,8 @@ use Rattle.start.specs.Start.{started}
 use Rattle.state.specs.Lists.{State, state, Ready}
 use Rattle.trace.specs.Trace.{startOf}
 use Rattle.trace.proofs.Rests.{same-started}
-use Rattle.retired.specs.Coded.{silenced, withObj, solvedSilent, fittedSilent}
+use Rattle.retired.specs.Coded.{withObj, solvedSilent, fittedSilent}
+use Rattle.retired.specs.Silenced.{silenced}
 use Rattle.retired.specs.Differ.{Input, DifferRetired}
 use Rattle.retired.specs.Entry.{standsIn, kept, answeredOver, fittedOver}
 use Rattle.retired.proofs.Independent.{kept-at, kept-place, zero-low, lent-alike, answered-same}

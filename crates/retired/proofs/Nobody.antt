@@ -32,7 +32,8 @@ use Rattle.solver.specs.End.{sumTo, objectiveOf, trained}
 use Rattle.solver.specs.Run.{Full}
 use Rattle.solver.specs.declared.Given.{Given}
 use Rattle.state.specs.Lists.{state}
-use Rattle.retired.specs.Coded.{silenced, withObj, solvedSilent, fittedSilent}
+use Rattle.retired.specs.Coded.{withObj, solvedSilent, fittedSilent}
+use Rattle.retired.specs.Silenced.{silenced}
 use Rattle.retired.specs.Differ.{Input}
 use Rattle.retired.specs.Entry.{standsIn, kept, fittedOver, retiredSized, retiredOf}
 use Rattle.retired.proofs.Coded.{silenced-place, silent-is}

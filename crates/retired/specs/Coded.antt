@@ -2,7 +2,7 @@
 -- A reader needn't believe it: proofs/Coded.antt shows that it is what Entry.antt says.
 use Prim.Native.Nat.{ℕ}
 use mathlib.Core.List.{List}
-use lib.Ieee.{Float, nan}
+use lib.Ieee.{Float}
 use Rattle.answer.specs.Lent.{Lent, lent, Whole}
 use Rattle.answer.specs.Solved.{read, settledOf, closedWith}
 use Rattle.answer.specs.declared.Finish.the-variants.{Plain}
@@ -10,16 +10,12 @@ use Rattle.answer.specs.declared.Outcome.{Outcome}
 use Rattle.answer.specs.declared.Outcome.the-variants.{Accepted, Refused}
 use Rattle.classification.specs.Entries.{scratchOf}
 use Rattle.fits.specs.Load.{loaded}
-use Rattle.fits.specs.Starts.{nothing}
 use Rattle.standing.specs.End.{objectiveOver}
 use Rattle.solver.specs.End.{trained}
 use Rattle.solver.specs.declared.Given.{Given}
 use Rattle.state.specs.Lists.{state}
-use Rattle.retired.specs.Entry.{standsIn, keptTo, kept}
-
--- the linear term of what is retired
-unfoldable pub silenced : List ℕ → List Float → ℕ → List Float
-silenced r p n = keptTo r nan p nothing n
+use Rattle.retired.specs.Entry.{standsIn, kept}
+use Rattle.retired.specs.Silenced.{silenced}
 
 abbrev pub withObj : Outcome → Float → Outcome
 withObj (Accepted a) x =

@@ -1,3 +1,4 @@
 pub mod Entry
 pub mod Differ
+pub mod Silenced
 pub mod Coded

@@ -16,9 +16,9 @@ use Rattle.start.specs.Start.{started}
 use Rattle.state.specs.Fields.{sample}
 use Rattle.state.specs.Lists.{Problem, State, Ready}
 use Rattle.trace.specs.Trace.{stepsOf, startOf}
-use Rattle.travel.specs.Home.{lastLeft}
+use Rattle.travel.specs.Home.{lastLeft, Told}
 use Rattle.travel.specs.Travel.{Fresh, Travelled}
-use Rattle.travel.proofs.Home.{Told, last-more, told-step, start-told}
+use Rattle.travel.proofs.Home.{last-more, told-step, start-told}
 use Rattle.travel.proofs.Travel.{Settled, settled-stays, started-stays, updated-stays, fresh-travelled}
 use Rattle.update.specs.Update.{updated, updatedState}
 use Rattle.standing.specs.Run.{chosenOver, passedOn, nextOver, runsOver, addedOver, tracedOver}

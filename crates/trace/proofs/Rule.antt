@@ -3,7 +3,7 @@
 --   none-words      none is chosen exactly where the rule stops
 --   pair-by-rule    the pair with which a pass steps is the rule's, in the state of its last look
 --   stop-by-rule    a pass that ends the run met no pair at both looks
---   trained-stops   a run that ended by itself ended with such a pass
+--   trained-stops   a run that ended by itself ended with such a pass; ended-done: and one that did has ended
 --   trained-none    and in what it leaves there is no pair
 --   trained-fewer   it took fewer steps than the budget has; trained-done: so does no other run that isn't refused
 -- Assumes nothing.
@@ -29,7 +29,7 @@ use Rattle.partner.specs.Second.{choice, second}
 use Rattle.partner.proofs.Rule.{chosenBy, choice-pair, choice-optimal, sum-is}
 use Rattle.shrink.specs.Drops.{walkedOver}
 use Rattle.solver.specs.End.{activeAt, closed, trained}
-use Rattle.solver.specs.Pass.{ten, chosen, rebuilt, topsOf, restored, walkedFrom, shrunk, countedDown, passed, next, runs}
+use Rattle.solver.specs.Pass.{ten, chosen, rebuilt, topsOf, restored, walkedFrom, shrunk, countedDown, looked, workedBy, onward, passed, next, runs}
 use Rattle.solver.specs.Run.{problemOf, Full, withRun, goes, counterAt, reopened, period}
 use Rattle.solver.specs.declared.Given.{Given}
 use Rattle.solver.specs.declared.Status.{Status}
@@ -57,18 +57,19 @@ module _ (stands : ℕ → Bool) (g : Given) (m : List ℕ) (s : State) (a : ℕ
   sum-by true t = sum-nu stands p s a t
   sum-by false t = sum-c stands p s a
 
+  -- and any sums of the words are these
+  pub sums-are : (nu t : Bool) (x : Float) → Sum p s (Rises stands g m s a nu t) (Falls stands g m s a nu t) x → sumsBy nu t ≡ x
+  sums-are true t x w = sum-is p s (rises-nu stands p s a t) (falls-nu stands p s a t) x w
+  sums-are false t x w = sum-is p s (rises-c stands p s a) (falls-c stands p s a) x w
+
   -- so the level of the words is theirs
   pub level-words : (nu b : Bool) → (isBelow stands g m s a nu (sumsBy nu) ≡ b) ↔ Level stands g m s a nu b
   level-words nu b = (λ e. record { sums = sumsBy nu; each = sum-by nu; tells = e }, λ w. back nu (w .sums) (w .each) ∙ w .tells)
     where
-      same : (nu t : Bool) (x : Float) → Sum p s (Rises stands g m s a nu t) (Falls stands g m s a nu t) x → sumsBy nu t ≡ x
-      same true t x w = sum-is p s (rises-nu stands p s a t) (falls-nu stands p s a t) x w
-      same false t x w = sum-is p s (rises-c stands p s a) (falls-c stands p s a) x w
-
       back : (nu : Bool) (x : Bool → Float) → ((t : Bool) → Sum p s (Rises stands g m s a nu t) (Falls stands g m s a nu t) (x t))
           → isBelow stands g m s a nu (sumsBy nu) ≡ isBelow stands g m s a nu x
-      back true x w = rw (same true true (x true) (w true), same true false (x false) (w false))
-      back false x w = rw (same false true (x true) (w true))
+      back true x w = rw (sums-are true true (x true) (w true), sums-are true false (x false) (w false))
+      back false x w = rw (sums-are false true (x true) (w true))
 
   -- the choice over those that stand, by either rule
   abbrev pub choiceBy : Bool → Choice
@@ -188,6 +189,17 @@ module _ (g : Given) (m : List ℕ) where
           | inr z ↦ z
         ]
 
+    -- the walk before it refused nothing
+    counted-on : (w : Full) → w .run .status ≡ Going → passed g m b w .run .status ≡ Done → goes (countedDown g m w .run .status) ≡ true
+    unfolding passed onward goes
+    counted-on w h d = elim (counted-status w) [
+      | inl e ↦ ap goes (e ∙ h)
+      | inr e ↦ absurd (refused-not-done (sym e ∙ ap (λ (x : Full). x .run .status) (sym (off (countedDown g m w) (ap goes e))) ∙ d))
+    ]
+      where
+        off : (v : Full) → goes (v .run .status) ≡ false → onward g m b (goes (v .run .status)) v ≡ v
+        off v e = rw e
+
     pub stop-by-rule : (w : Full) → w .run .status ≡ Going → passed g m b w .run .status ≡ Done → Stops g m (countedDown g m w)
     stop-by-rule w h d =
         let z = pass-done w h d in
@@ -211,13 +223,23 @@ module _ (g : Given) (m : List ℕ) where
               pass = t;
               before = omega arith;
               going = e;
+              on = counted-on (runs g m b w t) (goes-going (runs g m b w t .run .status) e) d;
               last = rw e;
               stops = stop-by-rule (runs g m b w t) (goes-going (runs g m b w t .run .status) e) d;
             }
         go false e ih d =
             let r = ih d in
             let l = r .before in
-            record { pass = r .pass; before = omega arith; going = r .going; last = rw e (r .last); stops = r .stops }
+            record { pass = r .pass; before = omega arith; going = r .going; on = r .on; last = rw e (r .last); stops = r .stops }
+
+    -- and whoever stops so has ended
+    stops-done : (w : Full) → goes (countedDown g m w .run .status) ≡ true → Stops g m (countedDown g m w) → passed g m b w .run .status ≡ Done
+    unfolding passed onward workedBy looked
+    stops-done w o s =
+        rw (o, none-words (countedDown g m w) .1 (s .first), none-words (rebuilt g m (countedDown g m w)) .1 (s .second))
+
+    pub ended-done : (w : Full) (t : ℕ) → Ended g m b w t → runs g m b w t .run .status ≡ Done
+    ended-done w t e = ap (λ (x : Full). x .run .status) (e .last) ∙ stops-done (runs g m b w (e .pass)) (e .on) (e .stops)
 
     module _ (w : Full) (t : ℕ) (h : w .run .status ≡ Going) (d : runs g m b w t .run .status ≡ Done) where
       e : Ended g m b w t

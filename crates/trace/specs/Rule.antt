@@ -58,10 +58,11 @@ module _ (g : Given) (m : List ℕ) where
     pub first : NoPairIn v
     pub second : NoPairIn (rebuilt g m v)
 
-  -- the run from w ended by itself: with a pass before the t-th that stops
+  -- the run from w ended by itself: with a pass before the t-th that goes on after its walk, and stops
   pub record Ended (b : List Float) (w : Full) (t : ℕ) : Type 0 where
     pub pass : ℕ
     pub before : pass < t
     pub going : goes (runs g m b w pass .run .status) ≡ true
+    pub on : goes (countedDown g m (runs g m b w pass) .run .status) ≡ true
     pub last : runs g m b w t ≡ passed g m b (runs g m b w pass)
     pub stops : Stops (countedDown g m (runs g m b w pass))

@@ -37,7 +37,7 @@ use Rattle.trace.proofs.Passes.{pair-look, pass-steps, pass-ends}
 use Rattle.trace.proofs.Rests.{same-started, same-reconstructed}
 use Rattle.update.specs.Update.{updatedState}
 use Rattle.update.proofs.Left.{length-updated, alpha-other}
-use Rattle.travel.specs.Home.{leftBy, lastLeft}
+use Rattle.travel.specs.Home.{leftBy, lastLeft, Told}
 use Rattle.travel.specs.Travel.{Fresh}
 use Rattle.readings.proofs.Order.{home-at}
 use Rattle.travel.proofs.Rearranged.{rearranged-none, rearranged-moved, perm-rearranged}
@@ -81,13 +81,7 @@ module _ (es fs : List Step) (e : Step) (s : ℕ) (x : Float) (h : AllMissed s f
 -- ---- what each part of a run does to the weights
 
 module _ (p : Problem) where
-  -- the weight at each position is what x says of its sample
-  pub record Told (x : ℕ → Float) (s : State) : Type 0 where
-    pub ready : Ready p s
-    pub order : Perm (p .n) (s .numbers)
-    pub weights : (k : ℕ) → k < p .n → weightIn (p .n) (s .floats) k ≡ x (sample s k)
-
-  told-rebuilt : (x : ℕ → Float) (s : State) (a : ℕ) → a ≤ p .n → Told x s → Told x (over s (reconstructed p a s))
+  told-rebuilt : (x : ℕ → Float) (s : State) (a : ℕ) → a ≤ p .n → Told p x s → Told p x (over s (reconstructed p a s))
   told-rebuilt x s a l w =
       let e = same-reconstructed p a l (5 * p .n) s in
       record {
@@ -96,7 +90,7 @@ module _ (p : Problem) where
         weights = λ k c. e .at (2 * p .n + k) (omega arith) (omega arith) ∙ w .weights k c;
       }
 
-  told-moved : (x : ℕ → Float) (s : State) (i j : ℕ) → i < p .n → j < p .n → Told x s → Told x (moved (p .n) s i j)
+  told-moved : (x : ℕ → Float) (s : State) (i j : ℕ) → i < p .n → j < p .n → Told p x s → Told p x (moved (p .n) s i j)
   told-moved x s i j a b w =
       let r = ready-moved (w .ready) i j a b in
       let l = r .indexed .long in

@@ -3,7 +3,7 @@ use mathlib.Core.Bool.{false}
 use Rattle.answer.specs.Lent.{lent}
 use Rattle.classification.proofs.Laws.{loaded-ready}
 use Rattle.kernel.specs.declared.Kind.the-variants.{TwoClass}
-use Rattle.retired.specs.Coded.{silenced}
+use Rattle.retired.specs.Silenced.{silenced}
 use Rattle.retired.specs.Entry.{kept}
 use Rattle.retired.proofs.Coded.{fitted-by}
 use Rattle.state.specs.Lists.{state}

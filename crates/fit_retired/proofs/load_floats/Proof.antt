@@ -7,7 +7,7 @@ use lib.Ieee.{nan, div, ofBits}
 use lib.ListN.{length, length-set}
 use Rattle.fits.specs.Load.{loadedFloats}
 use Rattle.retired.specs.Entry.{kept}
-use Rattle.retired.specs.Coded.{silenced}
+use Rattle.retired.specs.Silenced.{silenced}
 use Rattle.retired.proofs.Coded.{silenced-place}
 use Rattle.retired.proofs.Independent.{kept-place}
 use borrow.Author.Needs.{needs}
