@@ -253,6 +253,12 @@ static inline uint64_t altuliscia_train_retired(size_t n, const double *matrix, 
                               ALTULISCIA_WRITTEN(home, n), ALTULISCIA_WRITTEN(result, 9u));
 }
 
+/* Whether an answer is to be used: accepted, ended by the threshold, rho finite, and under the nu rule r finite and not 0. */
+static inline int altuliscia_usable(const altuliscia_result *result) {
+    return result->refusal == ALTULISCIA_ACCEPTED && result->reason == ALTULISCIA_THRESHOLD && result->rho - result->rho == 0 &&
+           (!result->has_r || (result->r - result->r == 0 && result->r != 0));
+}
+
 /* The decision of weights that are signed by label, or of one class: the sum over the samples, in their order, of weight times kernel
  * value, less rho. A value beside a weight of 0 is passed over, so those of the support vectors are enough. */
 static inline double altuliscia_decide(size_t n, const double *home, double rho, const double *values) {

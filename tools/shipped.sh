@@ -1,9 +1,10 @@
 # Sourced at the root of the repository: what is known of the archives that ship in lib/, and of the Rattle kit.
 #
-#   kit_made            the kit that they were made with, by its one-line identity
+#   kit_made            the kit that they were made with, by its one-line identity; machine_made: on which kind of machine
 #   needs_kit COMMAND   ends with a line that names the kit where there is none
 #   crates_changed      whether the code under crates/ is known to be another than that of which they were made
 kit_made=$(sed -n 's/^kit //p' lib/MADE)
+machine_made=$(sed -n 's/^machine //p' lib/MADE)
 
 needs_kit() {
     if ! command -v rt > /dev/null; then

@@ -120,7 +120,7 @@ static void expect(const char *what, int holds) {
 static void odd(void) {
     const double m[] = {1, 0, 0, 1}, d[] = {1, 1}, nan_row[] = {0.5, 0.0 / (m[1] + 0.0)};
     const double weights[] = {2, 0}, both[] = {2, 3}, row[] = {0.5, 0.25};
-    const uint8_t y[] = {1, 0};
+    const uint8_t y[] = {1, 0}, ones[] = {1, 1};
     double home[2], crate[2];
     altuliscia_result result;
     expect("no matrix is 2", altuliscia_train_c(2, NULL, y, 1, 1, 0, 0, 10, NULL, home, &result) == 2 && result.refusal == 2);
@@ -135,6 +135,15 @@ static void odd(void) {
     expect("with it", altuliscia_train_c(2, m, y, 1, 1, 0.001, 0, 10, crate, home, &result) == 0 && crate[1] == -1);
     altuliscia_train_general(2, m, y, d, d, d, 256, 0, 0, 10, NULL, home, &result);
     expect("a rule of 256 is on", result.refusal == 0 && result.has_r);
+    expect("a rule of 256 and an infinite r", !altuliscia_usable(&result));
+    altuliscia_train_c(2, m, y, 1, 1, 0.001, 0, 10, NULL, home, &result);
+    expect("usable", altuliscia_usable(&result));
+    result.reason = ALTULISCIA_ITERATIONS;
+    expect("not where the budget ran out", !altuliscia_usable(&result));
+    altuliscia_train_c(2, m, y, 1, 1, -1, 0, 10, NULL, home, &result);
+    expect("not where refused", result.refusal == 8 && !altuliscia_usable(&result));
+    altuliscia_train_c(2, m, ones, 1, 1, 0.001, 0, 10, NULL, home, &result);
+    expect("not with an infinite rho", result.refusal == 0 && !altuliscia_usable(&result));
     expect("a NaN beside 0", altuliscia_decide(2, weights, 0.25, nan_row) == 0.75);
     expect("a NaN beside a weight", altuliscia_decide(2, both, 0.25, nan_row) != altuliscia_decide(2, both, 0.25, nan_row));
     expect("signed by label", altuliscia_decide_by_label(2, both, y, 0.125, row) == 0.125);

@@ -38,7 +38,7 @@ int main(void) {
 
     altuliscia_train_c(N, matrix, labels, 1.0 /* cpos */, 1.0 /* cneg */, 0.001 /* eps */, 0 /* shrinking */,
                        1000 /* budget */, NULL /* crate_reading */, home, &result);
-    if (refused(&result))
+    if (refused(&result) || !altuliscia_usable(&result))
         return 1;
 
     /* Something new, by its kernel values with the two samples. */
