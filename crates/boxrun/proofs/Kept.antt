@@ -1,7 +1,7 @@
 -- Where all but gradients and fixed gradients stays, the box is kept. Assumes nothing.
 use Prim.Native.Nat.{ℕ, _+_, _*_, _≤_, _<_}
 use mathlib.Core.List.{List}
-use mathlib.Core.Path.{_≡_, ap₂, _∙_}
+use mathlib.Core.Path.{_≡_, ap₂}
 use native.Mathlib.Omega.{arith}
 use lib.Ieee.{Float}
 use Rattle.alpha.specs.Weight.{weight}

@@ -1,13 +1,13 @@
 -- What a stop tells of the sums of the extremes, where the entries are of magnitude 2^1000 at the most: by them the rule stops, or none is
 -- above 0 (`stop-quiet`). Assumes nothing.
 use Prim.Native.Nat.{ℕ, _*_, _≤_, _<_}
-use mathlib.Core.Bool.{Bool, true, false, not, _&&_, Bool·beq, cond}
+use mathlib.Core.Bool.{Bool, true, false, _&&_}
 use mathlib.Core.List.{List}
-use mathlib.Core.Logic.{_⊎_, inl, inr}
-use mathlib.Core.Path.{_≡_, refl, sym, _∙_}
+use mathlib.Core.Logic.{inl, inr}
+use mathlib.Core.Path.{_≡_, refl}
 use native.Mathlib.Omega.{arith}
 use lib.Dec.{T}
-use lib.Ieee.{Float, nan, inf, fin, binary64, neg, add, sub, lt}
+use lib.Ieee.{Float, nan, inf, fin, binary64, add, sub, lt}
 use lib.Ieee.Fits.{and-l, and-r}
 use Rattle.alpha.specs.Weight.{zero}
 use Rattle.boxed.specs.Range.{Entry, Divides}
@@ -15,7 +15,7 @@ use Rattle.boxed.proofs.Gain.{gain-number}
 use Rattle.choose_nu.specs.Choice.{ofLabel}
 use Rattle.extreme.specs.Rule.{Top}
 use Rattle.partner.specs.Curvature.{gapOf}
-use Rattle.partner.specs.Rule.{Follows, NoSecond, Sum}
+use Rattle.partner.specs.Rule.{NoSecond, Sum}
 use Rattle.partner.specs.Second.{agree, gap, gainOf}
 use Rattle.partner.specs.Sides.{mayFall, rise, fall, fallOf}
 use Rattle.rounding.specs.Units.{NotNan}

@@ -21,10 +21,10 @@ use Rattle.extreme.specs.declared.Choice.the-variants.{Pair}
 use Rattle.hosted.specs.Hosted.{floatsOf, room, Handed, handed, delivered, turnedAway, hostedBy, answeredBy}
 use Rattle.hosted.proofs.Serves.{Serves, inputs-right, serves}
 use Rattle.promises.specs.Fit.{Fit, weightAfter}
-use Rattle.promises.specs.Retired.{retiredFit, silentFit, afterOver, weightOver, pairOver, deltaOver, stepsOver, ownOver}
+use Rattle.promises.specs.Retired.{retiredFit, silentFit, afterOver, weightOver, pairOver, deltaOver, ownOver}
 use Rattle.promises.proofs.Doubles.{Double, taken-own-double}
 use Rattle.promises.proofs.Numbers.{retired-sized-number}
-use Rattle.promises.proofs.Retired.{taken-alike, taken-home, taken-reads, taken-travels, taken-pairs, taken-iterations, taken-coded}
+use Rattle.promises.proofs.Retired.{taken-alike, taken-home, taken-reads, taken-travels, taken-pairs, taken-coded}
 use Rattle.promises.proofs.RetiredBox.{taken-box, taken-no-nan, taken-home-box}
 use Rattle.retired.specs.Differ.{Input, DifferRetired}
 use Rattle.retired.specs.Entry.{standsIn, kept, retiredSized}

@@ -5,7 +5,7 @@ use mathlib.Core.List.{List}
 use mathlib.Core.Path.{_≡_, refl, sym, ap, _∙_}
 use native.Mathlib.Nat.{mod-eq-of-lt}
 use native.Mathlib.Omega.{arith}
-use lib.ListN.{length, getD}
+use lib.ListN.{length}
 use Rattle.altuliscia.specs.Functions.{isOn, asFloat, generalHost, cHost, nuHost, oneClassHost, retiredHost}
 use Rattle.answer.specs.Answer.{wordsOf, reasonNumber}
 use Rattle.answer.specs.Lent.{Whole}

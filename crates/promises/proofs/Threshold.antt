@@ -1,12 +1,11 @@
 -- Where an entry's answer has the reason 'threshold', the rule stops in what its run leaves: of each entry, `..-threshold`. Assumes nothing.
-use Prim.Native.Nat.{ℕ, _*_, _≤_, _<_}
+use Prim.Native.Nat.{ℕ, _*_, _<_}
 use mathlib.Core.Bool.{Bool, true, false, cond, true≢false}
 use mathlib.Core.List.{List}
 use mathlib.Core.Logic.{inl, inr}
 use mathlib.Core.Path.{_≡_, refl, sym, ap, _∙_}
 use native.Mathlib.Omega.{arith}
 use borrow.Author.Tests.{eq-eqb}
-use lib.Dec.{eqb}
 use lib.Ieee.{Float}
 use Rattle.answer.specs.Answer.{reasonOf}
 use Rattle.answer.specs.Lent.{Lent, Whole}
@@ -37,7 +36,6 @@ use Rattle.solver.specs.declared.Status.the-variants as Status
 use Rattle.standing.specs.Run.{trainedOver}
 use Rattle.standing.proofs.Rule.{runs-went}
 use Rattle.standing.proofs.Sample.{runs-keep}
-use Rattle.state.specs.Lists.{State}
 use Rattle.trace.specs.Rule.{NoPair}
 use Rattle.trace.specs.Trace.{startOf}
 use Rattle.trace.proofs.Rule.{trained-stops, trained-none, trained-done}
