@@ -8,7 +8,7 @@ use mathlib.Core.Path.{_≡_, refl}
 use native.Mathlib.Omega.{arith}
 use lib.Dec.{T}
 use lib.Ieee.{Float, nan, inf, fin, binary64, add, sub, lt}
-use lib.Ieee.Fits.{and-l, and-r}
+use lib.Ieee.Fits.{and-i, and-l, and-r}
 use Rattle.alpha.specs.Weight.{zero}
 use Rattle.boxed.specs.Range.{Entry, Divides}
 use Rattle.boxed.proofs.Gain.{gain-number}
@@ -73,12 +73,8 @@ module _ (stands : ℕ → Bool) (g : Given) (m : List ℕ) (s : State) (a : ℕ
         r .inside,
         f .inside,
         rw (label-is t (positive s j) (and-l (ofLabel t (positive s j)) (mayFall p s j) o)) at r,
-        both (stands j) (mayFall p s j) (and-l (stands j) (ofLabel t (positive s j) && mayFall p s j) (f .eligible)) (and-r (ofLabel t (positive s j)) (mayFall p s j) o),
+        and-i (stands j) (mayFall p s j) (and-l (stands j) (ofLabel t (positive s j) && mayFall p s j) (f .eligible)) (and-r (ofLabel t (positive s j)) (mayFall p s j) o),
       )
-    where
-      both : (a b : Bool) → T a → T b → T (a && b)
-      both true b t u = u
-      both false b t u = t
   holder false t i j r f = (r .inside, f .inside, r, f .eligible)
 
   gain-there : (i j : ℕ) → i < a → j < a → T (lt zero (gap p s (rise p s i) j)) → NotNan (gainOf p s (g .floor) (rise p s i) i j)
