@@ -1,21 +1,17 @@
 -- Laws of a row, for callers. Assumes nothing.
-use Prim.Native.Nat.{ℕ, zero, suc, _+_, _*_, _≤_, _<_}
+use Prim.Native.Nat.{ℕ}
 use mathlib.Core.Bool.{Bool, true, false, cond, Bool·beq}
 use mathlib.Core.List.{List}
 use mathlib.Core.Path.{_≡_, refl, ap, sym, _∙_}
-use mathlib.Core.Logic.{inl, inr}
-use native.Mathlib.Nat.{eq-or-lt-of-le, le-of-suc-le-suc}
-use native.Mathlib.Omega.{arith}
 use borrow.Author.Tests.{eq-eqb}
-use lib.Ieee.{Float, nan, binary64, neg, add, sub, mul}
-use lib.ListN.{length, getD, length-set}
-use lib.Seq.{getD-set-same, getD-set-other}
+use lib.Ieee.{Float, binary64, neg, add, sub, mul}
+use lib.ListN.{getD}
 use Rattle.alpha.specs.Weight.{two}
 use Rattle.rounding.proofs.Order.{neg-neg}
 use Rattle.rounding.proofs.Products.{mul-neg, mul-neg-right}
 use Rattle.kernel.specs.Curvature.{curved}
 use Rattle.kernel.specs.Matrix.{entryAt}
-use Rattle.kernel.specs.Row.{kernelIndex, alikeOf, signedOf, rowAt, rowTo}
+use Rattle.kernel.specs.Row.{kernelIndex, alikeOf, signedOf, rowAt}
 use Rattle.kernel.specs.declared.Kind.{Kind}
 use Rattle.kernel.specs.declared.Kind.the-variants.{TwoClass, OneClass}
 
@@ -28,27 +24,6 @@ module _ (kind : Kind) (side : ℕ) (m : List ℕ) (n : ℕ) (u y : List ℕ) (i
   pub row-diagonal : rowAt kind side m n u y i i ≡ entryAt side m (kernelIndex n u i) (kernelIndex n u i)
   unfolding rowAt
   row-diagonal = rw (alike-itself kind (getD y i 0))
-
-  module _ (f : List Float) where
-    pub length-rowTo : (k : ℕ) → length (rowTo kind side m n u y i f k) ≡ length f
-    unfolding rowTo
-    length-rowTo zero = refl
-    length-rowTo (suc k) = length-set (rowTo kind side m n u y i f k) (6 * n + k) (rowAt kind side m n u y i k) ∙ length-rowTo k
-
-    -- what is filled is the row
-    pub rowTo-at : (k p : ℕ) → p < k → 6 * n + k ≤ length f → getD (rowTo kind side m n u y i f k) (6 * n + p) nan ≡ rowAt kind side m n u y i p
-    unfolding rowTo
-    rowTo-at zero p h l = let z : ⊥ = omega arith in absurd z
-    rowTo-at (suc k) p h l = elim (eq-or-lt-of-le (le-of-suc-le-suc h)) [
-      | inl e ↦ rw e (getD-set-same (rowTo kind side m n u y i f k) (6 * n + k) (rowAt kind side m n u y i k) nan (rw (length-rowTo k) (omega arith)))
-      | inr g ↦ getD-set-other (rowTo kind side m n u y i f k) (6 * n + k) (6 * n + p) (rowAt kind side m n u y i k) nan (λ e. omega arith) ∙ rowTo-at k p g (omega arith)
-    ]
-
-    -- every other place stays
-    pub rowTo-other : (k q : ℕ) → ((p : ℕ) → p < k → q ≡ 6 * n + p → ⊥) → getD (rowTo kind side m n u y i f k) q nan ≡ getD f q nan
-    unfolding rowTo
-    rowTo-other zero q h = refl
-    rowTo-other (suc k) q h = getD-set-other (rowTo kind side m n u y i f k) (6 * n + k) q (rowAt kind side m n u y i k) nan (h k (omega arith)) ∙ rowTo-other k q (λ p g. h p (omega arith))
 
 -- ---- the sign of an entry goes through its product, and through its curvature
 

@@ -1,10 +1,10 @@
 -- Row i: the matrix column of position i's sample, read at each position's sample (the rule, section 'Kernel column').
-use Prim.Native.Nat.{ℕ, zero, suc, _+_, _*_, _≤_, _<_}
+use Prim.Native.Nat.{ℕ, _+_, _*_, _≤_, _<_}
 use mathlib.Core.Bool.{Bool, true, cond}
 use mathlib.Core.List.{List}
 use lib.Dec.{eqb}
 use lib.Ieee.{Float, neg}
-use lib.ListN.{length, getD, set}
+use lib.ListN.{length, getD}
 use Rattle.kernel.specs.Matrix.{entryAt}
 use Rattle.kernel.specs.declared.Kind.{Kind}
 use Rattle.kernel.specs.declared.Kind.the-variants.{TwoClass, OneClass}
@@ -34,8 +34,3 @@ reachOf kind side m c a n u y k = signedOf (alikeOf kind a (getD y k 0)) (entryA
 -- row i at position k
 unfoldable pub rowAt : Kind → ℕ → List ℕ → ℕ → List ℕ → List ℕ → ℕ → ℕ → Float
 rowAt kind side m n u y i k = reachOf kind side m (kernelIndex n u i) (getD y i 0) n u y k
-
--- f with the first places of row i in its seventh field
-unfoldable pub rowTo : Kind → ℕ → List ℕ → ℕ → List ℕ → List ℕ → ℕ → List Float → ℕ → List Float
-rowTo kind side m n u y i f zero = f
-rowTo kind side m n u y i f (suc k) = set (rowTo kind side m n u y i f k) (6 * n + k) (rowAt kind side m n u y i k)

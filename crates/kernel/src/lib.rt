@@ -1,13 +1,13 @@
 // The lent kernel matrix. A reader answers each entry; what other crates call takes plain slices.
 ghost use mathlib.Core.Bool.{Bool, cond};
 ghost use mathlib.Core.Path.{_≡_};
-ghost use Prim.Native.Nat.{_+_, _*_, _≤_, _<_};
+ghost use Prim.Native.Nat.{_≤_, _<_};
 ghost use lib.Ieee.{binary64, neg, mul};
 ghost use lib.ListN.{length};
 ghost use Rattle.alpha.specs.Weight.{two};
 ghost use Rattle.kernel.specs.Curvature.{curved};
 ghost use Rattle.kernel.specs.Matrix.{entryAt, Matrix};
-ghost use Rattle.kernel.specs.Row.{kernelIndex, Indexed, alikeOf, signedOf, reachOf, rowAt, rowTo};
+ghost use Rattle.kernel.specs.Row.{kernelIndex, Indexed, alikeOf, signedOf, reachOf, rowAt};
 
 // Whose kernel it is: with two classes an entry between different labels is negated.
 pub enum Kind {
@@ -74,15 +74,6 @@ fn signed(alike: bool, x: f64) -> f64
     if alike { x } else { -x }
 }
 
-// The diagonal entry of position k's sample: never negated.
-pub fn self_distance(m: &[u8], side: usize, u: &[u64], n: usize, k: usize) -> f64
-    requires { ⌜ (Matrix side (now m)) × (Indexed side n (now u)) × (k < n) ⌝ }
-    ensures { λ r. ⌜ r ≡ entryAt side (now (m .entry)) (kernelIndex n (now (u .entry)) k) (kernelIndex n (now (u .entry)) k) ⌝ }
-{
-    let c = index_at(u, side, n, k);
-    entry(m, side, c, c)
-}
-
 // An entry of the row of kernel index c and label a, at position k. A loop over k asks for c and a once.
 pub fn reach(
     kind: Kind,
@@ -137,28 +128,6 @@ pub fn distance(
     ensures { λ r. ⌜ r ≡ rowAt kind side (now (m .entry)) n (now (u .entry)) (now (y .entry)) i k ⌝ }
 {
     reach(kind, m, side, index_at(u, side, n, i), y[i], u, n, y, k)
-}
-
-// The first count places of row i, into the seventh field of f.
-pub fn distances(
-    f: &mut [f64],
-    kind: Kind,
-    m: &[u8],
-    side: usize,
-    u: &[u64],
-    n: usize,
-    y: &[u8],
-    i: usize,
-    count: usize,
-)
-    requires { ⌜ (Matrix side (now m)) × (Indexed side n (now u)) × (n ≤ length (now y)) × (7 * n ≤ length (now f)) × (i < n) × (count ≤ n) ⌝ }
-    ensures { λ _. ⌜ now (f .exit) ≡ rowTo kind side (now (m .entry)) n (now (u .entry)) (now (y .entry)) i (now (f .entry)) count ⌝ }
-{
-    let c = index_at(u, side, n, i);
-    let a = y[i];
-    for k in 0..count {
-        f[6 * n + k] = reach(kind, m, side, c, a, u, n, y, k);
-    }
 }
 
 fn twice(agree: bool) -> f64
