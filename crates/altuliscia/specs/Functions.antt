@@ -74,6 +74,6 @@ oneClassHost n m nu eps shrinking budget cr h an =
     h
     an
 
--- 10000·major + 100·minor + patch: 1.0.0
+-- 10000·major + 100·minor + patch: 1.1.0
 abbrev pub version : ℕ
-version = 10000
+version = 10100

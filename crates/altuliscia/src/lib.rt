@@ -204,5 +204,5 @@ pub extern "C" fn altuliscia_one_class(
 pub extern "C" fn altuliscia_version() -> u64
     ensures { λ k. ⌜ _≡_ {A = ℕ} k version ⌝ }
 {
-    10000
+    10100
 }

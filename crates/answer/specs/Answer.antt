@@ -3,9 +3,9 @@ use Prim.Native.Nat.{ℕ, zero, suc, _+_}
 use mathlib.Core.Bool.{Bool, cond}
 use mathlib.Core.List.{List, [], _∷_}
 use lib.Dec.{eqb}
-use lib.Ieee.{Float, nan, binary64, toBits, neg, mul, div, ne}
+use lib.Ieee.{Float, nan, binary64, ofBits, toBits, neg, mul, div, lt}
 use lib.ListN.{getD, set}
-use Rattle.alpha.specs.Weight as Weight
+use Rattle.floats.specs.Helpers.{absOf}
 use Rattle.rho.specs.declared.Level.{Level}
 use Rattle.answer.specs.declared.ExitReason.{ExitReason}
 use Rattle.answer.specs.declared.ExitReason.the-variants.{ReachedThreshold, ReachedIterations}
@@ -32,10 +32,18 @@ unfoldable pub finishedTo : Finish → List ℕ → Float → List Float → ℕ
 finishedTo how l r d zero = d
 finishedTo how l r d (suc k) = set (finishedTo how l r d k) k (coefficientOf how (getD l k 0) r (getD (finishedTo how l r d k) k nan))
 
--- ---- the support count: NaN counts, −0 doesn't
+-- ---- the support count
+
+-- 100·2^-52
+abbrev pub supportLimit : Float
+supportLimit = ofBits binary64 0x3d19_0000_0000_0000
+
+-- strictly above the limit in magnitude, which a NaN isn't
+abbrev pub supports : Float → Bool
+supports x = lt supportLimit (absOf x)
 
 abbrev pub countedBy : Float → ℕ → ℕ
-countedBy x t = cond (ne x Weight.zero) (t + 1) t
+countedBy x t = cond (supports x) (t + 1) t
 
 unfoldable pub supportOf : List Float → ℕ → ℕ
 supportOf h zero = 0

@@ -73,12 +73,18 @@ fn finish_reading(d: &mut [f64], l: &[u8], n: usize, how: Finish, r: f64)
     }
 }
 
-// NaN is not 0, and −0 is.
+// 100·2^-52: a weight is counted above it.
+const SUPPORT_LIMIT: f64 = 2.220446049250313e-14;
+
 fn count(x: f64, t: usize) -> usize
     requires { ⌜ t < 512 ⌝ }
     ensures { λ z. ⌜ (z ≡ countedBy x t) × (z ≤ t + 1) ⌝ }
 {
-    if x != 0.0 { t + 1 } else { t }
+    if floats::abs(x) > SUPPORT_LIMIT {
+        t + 1
+    } else {
+        t
+    }
 }
 
 fn support(h: &[f64], n: usize) -> usize
