@@ -1,0 +1,3 @@
+pub mod Box
+pub mod Doubles
+pub mod Once
