@@ -48,12 +48,15 @@ extern "C" {
 
 /* The version of this header; altuliscia_version tells the library's. docs/STABLE.md has what stays as it is. */
 #define ALTULISCIA_VERSION_MAJOR 1
-#define ALTULISCIA_VERSION_MINOR 0
+#define ALTULISCIA_VERSION_MINOR 1
 #define ALTULISCIA_VERSION_PATCH 0
 
 /* The most samples and the largest budget that are accepted. */
 #define ALTULISCIA_MOST_SAMPLES 512
 #define ALTULISCIA_MOST_PASSES 10000000
+
+/* A weight counts as support where its magnitude is above this: 100*2^-52, exactly. */
+#define ALTULISCIA_SUPPORT_LIMIT 2.220446049250313e-14
 
 /* What a call needs of the stack at the most, in bytes; and one of an altuliscia_train_.. function, which has room of its own. */
 #define ALTULISCIA_STACK_BYTES 65536
@@ -69,7 +72,7 @@ extern "C" {
 #define ALTULISCIA_AT_OBJ 40        /* a double */
 #define ALTULISCIA_AT_ITERATIONS 48 /* how many steps were taken */
 #define ALTULISCIA_AT_REASON 56     /* one of enum altuliscia_reason */
-#define ALTULISCIA_AT_SUPPORT 64    /* how many places of home aren't zero; NaN counts, -0 doesn't */
+#define ALTULISCIA_AT_SUPPORT 64    /* how many places of home are above ALTULISCIA_SUPPORT_LIMIT in magnitude; no NaN, no zero is */
 
 /* Why an accepted run ended. */
 enum altuliscia_reason {
@@ -186,7 +189,7 @@ typedef struct altuliscia_result {
     double obj;
     uint64_t iterations; /* how many steps were taken */
     uint64_t reason;     /* one of enum altuliscia_reason */
-    uint64_t support;    /* how many places of home aren't zero; NaN counts, -0 doesn't */
+    uint64_t support;    /* how many places of home are above ALTULISCIA_SUPPORT_LIMIT in magnitude; no NaN, no zero is */
 } altuliscia_result;
 typedef char altuliscia_result_has_72_bytes[sizeof(altuliscia_result) == ALTULISCIA_ANSWER_BYTES ? 1 : -1];
 
@@ -260,7 +263,8 @@ static inline int altuliscia_usable(const altuliscia_result *result) {
 }
 
 /* The decision of weights that are signed by label, or of one class: the sum over the samples, in their order, of weight times kernel
- * value, less rho. A value beside a weight of 0 is passed over, so those of the support vectors are enough. */
+ * value, less rho. A value beside a weight of 0 is passed over, and so need not be known. Every other has its say, also where its
+ * weight isn't counted as support. */
 static inline double altuliscia_decide(size_t n, const double *home, double rho, const double *values) {
     double sum = 0;
     size_t s;

@@ -144,6 +144,12 @@ static void odd(void) {
     expect("not where refused", result.refusal == 8 && !altuliscia_usable(&result));
     altuliscia_train_c(2, m, ones, 1, 1, 0.001, 0, 10, NULL, home, &result);
     expect("not with an infinite rho", result.refusal == 0 && !altuliscia_usable(&result));
+    altuliscia_train_c(2, m, y, ALTULISCIA_SUPPORT_LIMIT, ALTULISCIA_SUPPORT_LIMIT, 0.001, 0, 10, NULL, home, &result);
+    expect("the limit is no support", home[0] == ALTULISCIA_SUPPORT_LIMIT && home[1] == -home[0] && result.support == 0);
+    altuliscia_train_c(2, m, y, 2.2204460492503134e-14, 1, 0.001, 0, 10, NULL, home, &result);
+    expect("the next double is", home[0] > ALTULISCIA_SUPPORT_LIMIT && home[1] == -home[0] && result.support == 2);
+    altuliscia_train_nu(2, m, ones, 0.5, 0.001, 0, 10, NULL, home, &result);
+    expect("a NaN isn't", home[0] != home[0] && result.refusal == 0 && result.support == 0);
     expect("a NaN beside 0", altuliscia_decide(2, weights, 0.25, nan_row) == 0.75);
     expect("a NaN beside a weight", altuliscia_decide(2, both, 0.25, nan_row) != altuliscia_decide(2, both, 0.25, nan_row));
     expect("signed by label", altuliscia_decide_by_label(2, both, y, 0.125, row) == 0.125);

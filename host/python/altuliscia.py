@@ -43,7 +43,7 @@ import struct
 from array import array
 from itertools import compress
 
-__version__ = "1.0.0"
+__version__ = "1.1.0"
 
 MOST_SAMPLES = 512
 MOST_PASSES = 10_000_000
@@ -98,16 +98,19 @@ class Fit:
     home            each sample's own weight
     crate_reading   the list that the Rust crate linfa-svm answers, where weights may stand at other samples
     rho, r, obj     offset, scale of the nu rule (None without it), objective
+    support_count   how many weights are above 100*2^-52 in magnitude, as the library counts them; a NaN isn't. support_ also has the
+                    smaller ones, which a decision needs
 
     retired_ has the numbers of the retired samples, in their order; their weight is 0.
     """
 
-    def __init__(self, home, crate_reading, rho, r, obj, iterations, reason, retired=()):
+    def __init__(self, home, crate_reading, rho, r, obj, iterations, reason, support, retired=()):
         self.home = home
         self.crate_reading = crate_reading
         self.rho = rho
         self.r = r
         self.obj = obj
+        self.support_count = support
         self.retired_ = list(retired)
         self.support_ = [k for k, weight in enumerate(home) if weight != 0.0]
         self.dual_coef_ = [[home[k] for k in self.support_]]
@@ -319,11 +322,11 @@ def _called(name, n, lent, given, eps, shrinking, budget, late=()):
     function = getattr(_library(), name)
     function.restype = ctypes.c_uint64
     refusal = function(ctypes.c_size_t(n), *_slices(lent), *given, *options, *_slices(late), *results)
-    _, index, rho, has_r, r, obj, iterations, reason, _ = _ANSWER.unpack(written[2].raw)
+    _, index, rho, has_r, r, obj, iterations, reason, support = _ANSWER.unpack(written[2].raw)
     if refusal:
         raise Refusal(refusal, index)
     home, crate_reading = (list(struct.unpack(f"<{n}d", buffer.raw)) for buffer in (written[1], written[0]))
-    return home, crate_reading, rho, r if has_r else None, obj, iterations, reason
+    return home, crate_reading, rho, r if has_r else None, obj, iterations, reason, support
 
 
 _loaded = None

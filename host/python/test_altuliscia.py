@@ -43,7 +43,8 @@ def bits(numbers):
 def told(fit):
     """All that a fit answers, doubles bit for bit."""
     numbers = [fit.rho, fit.obj] if fit.r is None else [fit.rho, fit.obj, fit.r]
-    return bits(fit.home), bits(fit.crate_reading), bits(numbers), fit.n_iter_, fit.fit_status_, fit.support_, fit.retired_
+    counts = (fit.n_iter_, fit.fit_status_, fit.support_, fit.support_count)
+    return bits(fit.home), bits(fit.crate_reading), bits(numbers), *counts, fit.retired_
 
 
 class Version(unittest.TestCase):
@@ -67,6 +68,20 @@ class Worked(unittest.TestCase):
         fit = fit_c(IDENTITY, [1, 1])
         self.assertEqual((fit.home, fit.rho, fit.intercept_), ([0.0, 0.0], -math.inf, [math.inf]))
         self.assertEqual((fit.support_, fit.dual_coef_, fit.n_iter_), ([], [[]], [0]))
+
+    def test_support(self):
+        limit = 100 * 2.0 ** -52
+        # Both weights rise to their ceiling. The second is the next double above the limit.
+        for cost, count in ((limit, 0), (2.2204460492503134e-14, 2), (1e-15, 0), (5e-324, 0), (1.0, 2)):
+            fit = fit_c(IDENTITY, [1, 0], cost, cost)
+            self.assertEqual((fit.home, fit.support_, fit.support_count), ([cost, -cost], [0, 1], count))
+            self.assertEqual(fit.dual_coef_, [fit.home])
+        # One that counts beside three that don't; the decision takes all.
+        fit = fit_c(identity(4), [1, 0, 0, 0], 1.0, 1e-14)
+        self.assertEqual((fit.support_, fit.support_count), ([0, 1, 2, 3], 1))
+        fit = fit_nu(IDENTITY, [1, 1])
+        self.assertTrue(all(math.isnan(weight) for weight in fit.home))
+        self.assertEqual((fit.support_, fit.support_count), ([0, 1], 0))
 
     def general(self, tail):
         n = 3 + tail
@@ -273,7 +288,8 @@ def put_back(fit, n, gone):
     def spread(weights):
         left = iter(weights)
         return [0.0 if k in gone else next(left) for k in range(n)]
-    return Fit(spread(fit.home), spread(fit.crate_reading), fit.rho, fit.r, fit.obj, fit.n_iter_[0], fit.fit_status_, sorted(gone))
+    numbers = (fit.rho, fit.r, fit.obj, fit.n_iter_[0], fit.fit_status_, fit.support_count)
+    return Fit(spread(fit.home), spread(fit.crate_reading), *numbers, sorted(gone))
 
 
 class Retired(Refused):
@@ -327,7 +343,7 @@ class Retired(Refused):
         for fit in (fit_c(IDENTITY, [1, 0], retired=[0, 1]), *Problem(random.Random(2), 3).fits(retired=[2, 0, 1])):
             self.assertEqual((bits(fit.home), bits(fit.crate_reading)), (bytes(8 * len(fit.home)),) * 2)
             self.assertTrue(math.isnan(fit.rho) and math.isnan(fit.decision_function([[1] * len(fit.home)])[0]))
-            self.assertEqual((fit.obj, fit.n_iter_, fit.fit_status_, fit.support_), (0.0, [0], 0, []))
+            self.assertEqual((fit.obj, fit.n_iter_, fit.fit_status_, fit.support_, fit.support_count), (0.0, [0], 0, [], 0))
 
     def test_forms(self):
         class Whole:
@@ -361,7 +377,7 @@ class Retired(Refused):
 
         fit = call(shown("retired"), False)
         self.assertEqual((bits(fit.home), bits(fit.crate_reading)), (shown("both lists"),) * 2)
-        numbers = (0, 0, fit.rho, 0, 0.0, fit.obj, fit.n_iter_[0], fit.fit_status_, len(fit.support_))
+        numbers = (0, 0, fit.rho, 0, 0.0, fit.obj, fit.n_iter_[0], fit.fit_status_, fit.support_count)
         self.assertEqual(altuliscia._ANSWER.pack(*numbers), shown("answer"))
         self.assertEqual(told(fit_general(*lists, eps=0.001, budget=2, retired=[0]))[:-1], told(fit)[:-1])
         self.refused(12, 0, call, b"\2\0\0", False)

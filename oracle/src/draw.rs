@@ -8,15 +8,21 @@
 //! the ends of the float range. Then one problem in five is spoiled so that it
 //! must be refused.
 
-use crate::problem::{Entry, Problem, LIMIT, LIMIT_BITS, MOST_PASSES, MOST_SAMPLES};
+use crate::problem::{Entry, Problem, LIMIT, LIMIT_BITS, MOST_PASSES, MOST_SAMPLES, SUPPORT_LIMIT};
 use crate::random::Random;
 use crate::run::solve;
 
+mod faint;
 mod retired;
 
+pub use faint::{draw_big_faint, draw_faint};
 pub use retired::{draw_retired, redraw_retired};
 
-const TINY: f64 = 5e-324;
+/// The least f64 above 0.
+pub const TINY: f64 = 5e-324;
+/// The next f64 above the support limit, and the next below.
+pub const PAST_SUPPORT: f64 = 2.2204460492503134e-14;
+pub const SHORT_OF_SUPPORT: f64 = 2.2204460492503128e-14;
 /// The next f64 above 2^1000.
 pub const PAST_LIMIT: f64 = LIMIT * PAST_ONE;
 /// The next f64 above 1.

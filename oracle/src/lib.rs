@@ -22,7 +22,7 @@ pub mod run;
 pub mod show;
 pub mod worked;
 
-pub use draw::{draw, draw_retired};
+pub use draw::{draw, draw_faint, draw_retired};
 pub use judge::{judge, Refusal};
 pub use problem::{Entry, Problem};
 pub use run::{solve, Accepted, Answer, Outcome, Reason};

@@ -1,7 +1,7 @@
 //! The oracle's command line.
 
-use oracle::marks::Tally;
-use oracle::{draw, draw_retired, record, show, solve, worked, Outcome, Problem};
+use oracle::marks::{Owed, Tally};
+use oracle::{draw, draw_faint, draw_retired, record, show, solve, worked, Outcome, Problem};
 use std::process::ExitCode;
 use std::time::Instant;
 
@@ -15,6 +15,8 @@ const HELP: &str = "oracle COMMAND
   show SEED         one drawn problem, its answer and its passes
   draw retired SEED COUNT, show retired SEED
                     the same of problems with retired samples
+  draw faint SEED COUNT, show faint SEED
+                    the same of problems with weights near the support limit
 ";
 
 fn main() -> ExitCode {
@@ -24,10 +26,12 @@ fn main() -> ExitCode {
         ["worked"] => run_worked(),
         ["record", path] => run_record(path),
         ["check", path] => run_check(path),
-        ["draw", seed, count] => run_draw(draw, seed, count),
-        ["draw", "retired", seed, count] => run_draw(draw_retired, seed, count),
+        ["draw", seed, count] => run_draw(draw, Owed::Some, seed, count),
+        ["draw", "retired", seed, count] => run_draw(draw_retired, Owed::Retired, seed, count),
+        ["draw", "faint", seed, count] => run_draw(draw_faint, Owed::Faint, seed, count),
         ["show", seed] => run_show(draw, seed),
         ["show", "retired", seed] => run_show(draw_retired, seed),
+        ["show", "faint", seed] => run_show(draw_faint, seed),
         _ => Err(HELP.to_string()),
     };
     match result {
@@ -80,10 +84,10 @@ fn run_check(path: &str) -> Result<(), String> {
     Ok(())
 }
 
-fn run_draw(draw: fn(u64) -> Problem, seed: &str, count: &str) -> Result<(), String> {
+fn run_draw(draw: fn(u64) -> Problem, owed: Owed, seed: &str, count: &str) -> Result<(), String> {
     let (seed, count) = (number(seed)?, number(count)?);
     let start = Instant::now();
-    let mut tally = Tally::default();
+    let mut tally = Tally::owing(&[owed]);
     let mut faults = 0;
     for k in 0..count {
         let seed = seed.wrapping_add(k);

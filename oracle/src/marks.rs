@@ -4,7 +4,9 @@
 use crate::judge::faults;
 use crate::problem::{Entry, Problem, LAST_REFUSAL, LIMIT, MOST_PASSES};
 use crate::run::{canonical, Accepted, Answer, Outcome, Reason};
+use faint::{FAINT, WRONG};
 
+mod faint;
 mod retired;
 
 pub use retired::RETIRED;
@@ -12,10 +14,12 @@ pub use retired::RETIRED;
 /// How much a tally must have of a mark.
 #[derive(Clone, Copy, Debug, PartialEq, Eq)]
 pub enum Owed {
-    /// A set that never reaches it isn't worth much.
+    /// A set of what `draw` draws isn't worth much where it never reaches it.
     Some,
-    /// The same, of a set with problems of the retired entry.
+    /// The same, of what `draw_retired` draws.
     Retired,
+    /// The same, of what `draw_faint` draws.
+    Faint,
     /// It has never been seen, or must never be.
     None,
 }
@@ -43,6 +47,15 @@ pub fn names() -> Vec<(String, Owed)> {
     for (name, _) in RETIRED {
         all.push((format!("retired: {name}"), Owed::Retired));
     }
+    for (name, _) in FAINT {
+        all.push((format!("home has {name}"), Owed::Faint));
+    }
+    for (rule, entry, _) in wrong_rules() {
+        let name = format!("another support count if {rule}, {}", entry.name());
+        all.push((name, Owed::Faint));
+    }
+    let part = "the readings have different support counts";
+    all.push((part.into(), Owed::None));
     all.push(("accepted: weight NaN or infinite".into(), Owed::None));
     all.push(("second look not optimal".into(), Owed::None));
     all.push(("fault of the oracle".into(), Owed::None));
@@ -56,6 +69,14 @@ fn refusals() -> Vec<(u64, Entry)> {
         .flat_map(each)
         .filter(|(number, entry)| entry.can_refuse(*number))
         .collect()
+}
+
+/// Every wrong rule of the support count with each entry that can tell.
+fn wrong_rules() -> impl Iterator<Item = (&'static str, Entry, fn(f64) -> bool)> {
+    let each = |(rule, entries, test): &'static (_, &[Entry], _)| {
+        entries.iter().map(move |entry| (*rule, *entry, *test))
+    };
+    WRONG.iter().flat_map(each)
 }
 
 /// The marks of one answer, in the order of [`names`].
@@ -78,6 +99,14 @@ pub fn marks(p: &Problem, answer: &Answer) -> Vec<bool> {
     for (_, test) in RETIRED {
         all.push(!drawn && test(p, answer));
     }
+    for (_, test) in FAINT {
+        all.push(accepted.map_or(false, test));
+    }
+    for (_, entry, rule) in wrong_rules() {
+        let tells = accepted.map_or(false, |a| faint::differs(a, &a.home, rule));
+        all.push(p.entry == entry && tells);
+    }
+    all.push(accepted.map_or(false, faint::readings_part));
     all.push(accepted.map_or(false, |a| a.weights.iter().any(|w| !w.is_finite())));
     all.push(answer.events.second_not_optimal > 0);
     all.push(matches!(answer.outcome, Outcome::Fault(_)));
@@ -247,15 +276,24 @@ fn is_negative_zero(x: f64) -> bool {
 /// Counts of marks over a set.
 #[derive(Clone, Debug, Default)]
 pub struct Tally {
+    /// Whose marks it should have.
+    owed: Vec<Owed>,
     pub total: u64,
-    /// Of the retired entry.
-    pub retired: u64,
     pub accepted: u64,
     pub passes: u64,
     pub counts: Vec<u64>,
 }
 
 impl Tally {
+    /// An empty one of a set that owes these marks.
+    pub fn owing(owed: &[Owed]) -> Tally {
+        let owed = [owed, &[Owed::None]].concat();
+        Tally {
+            owed,
+            ..Tally::default()
+        }
+    }
+
     pub fn add(&mut self, p: &Problem, answer: &Answer) -> Vec<bool> {
         let marks = marks(p, answer);
         self.counts.resize(marks.len(), 0);
@@ -263,7 +301,6 @@ impl Tally {
             *count += u64::from(*mark);
         }
         self.total += 1;
-        self.retired += u64::from(p.entry == Entry::Retired);
         if let Some(a) = answer.accepted() {
             self.accepted += 1;
             self.passes += a.iterations;
@@ -278,19 +315,15 @@ impl Tally {
         self.counts.get(k).copied().unwrap_or(0)
     }
 
-    /// Every mark that these problems can carry, with what is owed of it and
-    /// its count.
-    fn carried(&self) -> Vec<(String, Owed, u64)> {
+    /// Every mark that such a set can carry, with what is owed of it and its
+    /// count.
+    pub fn carried(&self) -> Vec<(String, Owed, u64)> {
         let counts = self.counts.iter().copied().chain(std::iter::repeat(0));
         names()
             .into_iter()
             .zip(counts)
             .map(|((name, owed), count)| (name, owed, count))
-            .filter(|(_, owed, _)| match owed {
-                Owed::Some => self.retired == 0 || self.total > self.retired,
-                Owed::Retired => self.retired > 0,
-                Owed::None => true,
-            })
+            .filter(|(_, owed, _)| self.owed.contains(owed))
             .collect()
     }
 

@@ -4,6 +4,10 @@
 pub const LIMIT: f64 = 1.0715086071862673e301;
 pub const LIMIT_BITS: u64 = 0x7e70_0000_0000_0000;
 
+/// A weight is support where its magnitude is above this, 100·2^-52.
+pub const SUPPORT_LIMIT: f64 = 2.220446049250313e-14;
+pub const SUPPORT_LIMIT_BITS: u64 = 0x3d19_0000_0000_0000;
+
 /// The largest n that is accepted.
 pub const MOST_SAMPLES: u64 = 512;
 
@@ -185,7 +189,12 @@ mod tests {
     use super::*;
 
     #[test]
-    fn the_limit_is_written_as_its_pattern() {
+    fn a_limit_is_written_as_its_pattern() {
+        assert_eq!(SUPPORT_LIMIT.to_bits(), SUPPORT_LIMIT_BITS);
+        assert_eq!(SUPPORT_LIMIT, 100.0 / 4_503_599_627_370_496.0);
+        let next_door = [crate::draw::SHORT_OF_SUPPORT, crate::draw::PAST_SUPPORT];
+        let patterns = [SUPPORT_LIMIT_BITS - 1, SUPPORT_LIMIT_BITS + 1];
+        assert_eq!(next_door.map(f64::to_bits), patterns);
         assert_eq!(LIMIT.to_bits(), LIMIT_BITS);
         assert_eq!(crate::draw::PAST_LIMIT.to_bits(), LIMIT_BITS + 1);
         assert_eq!(crate::draw::PAST_ONE.to_bits(), 1.0_f64.to_bits() + 1);

@@ -1,6 +1,6 @@
 //! The file of recorded answers. Its layout is told in `recorded/README.md`.
 
-use crate::draw::{draw, draw_big, draw_retired};
+use crate::draw::{draw, draw_big, draw_faint, draw_retired};
 use crate::judge::judge;
 use crate::marks::{names, Owed, Tally};
 use crate::problem::{Entry, Problem};
@@ -333,7 +333,7 @@ pub fn read(bytes: &[u8]) -> Result<Vec<Record>, String> {
 pub fn check(bytes: &[u8]) -> Result<Tally, Vec<String>> {
     let records = read(bytes).map_err(|e| vec![e])?;
     let mut wrong = Vec::new();
-    let mut tally = Tally::default();
+    let mut tally = Tally::owing(&OWED);
     for (k, r) in records.iter().enumerate() {
         let answer = solve(&r.problem, true);
         let told = match answer.outcome {
@@ -358,6 +358,9 @@ pub fn check(bytes: &[u8]) -> Result<Tally, Vec<String>> {
 // ---- what is recorded
 
 const FIRST_SEED: u64 = 0x0a17_0115_c1a0_0000;
+
+/// The marks that the file has.
+const OWED: [Owed; 3] = [Owed::Some, Owed::Retired, Owed::Faint];
 
 /// How drawn problems are chosen.
 struct Plan {
@@ -400,6 +403,17 @@ const RETIRED: Plan = Plan {
     most_bytes: 3000,
 };
 
+const FAINT: Plan = Plan {
+    draw: draw_faint,
+    plain: 0,
+    all: 20_000,
+    owed: Owed::Faint,
+    of_each: 4,
+    of_each_refusal: 0,
+    of_each_large: 0,
+    most_bytes: 900,
+};
+
 /// Larger ones: n, entry, shrinking, and whether the run ends in refusal 11.
 const BIG: [(usize, Entry, bool, bool); 14] = [
     (64, Entry::General, true, false),
@@ -424,9 +438,13 @@ const BIG_RETIRED: [(usize, Entry, bool, bool); 2] = [
 ];
 
 /// The records in their order: the worked runs, the draws as they come with
-/// rare ones, larger ones; then the retired entry's draws and larger ones.
+/// rare ones, larger ones; then the retired entry's draws and larger ones; then
+/// those with weights near the support limit.
 pub fn chosen() -> (Vec<Vec<u8>>, Tally) {
-    let mut set = Set::default();
+    let mut set = Set {
+        records: Vec::new(),
+        tally: Tally::owing(&OWED),
+    };
     for p in worked::problems() {
         let answer = solve(&p, true);
         set.take(&p, &answer);
@@ -435,10 +453,10 @@ pub fn chosen() -> (Vec<Vec<u8>>, Tally) {
     set.draw_big(&BIG);
     set.draw(&RETIRED);
     set.draw_big(&BIG_RETIRED);
+    set.draw(&FAINT);
     (set.records, set.tally)
 }
 
-#[derive(Default)]
 struct Set {
     records: Vec<Vec<u8>>,
     tally: Tally,

@@ -2,7 +2,7 @@
 //! its answer is put back at the old numbers.
 
 use crate::problem::{Entry, Problem};
-use crate::run::{solve_judged, support, Accepted, Answer, Outcome};
+use crate::run::{solve_judged, Accepted, Answer, Outcome};
 
 /// The answer to a problem of the retired entry that passed the judge. Where
 /// everybody is retired the solver runs on no sample at all: it finds no pair,
@@ -42,7 +42,8 @@ pub fn without(p: &Problem, kept: &[usize]) -> Problem {
 }
 
 /// The answer for the kept samples becomes one for all. A retired place has
-/// +0 everywhere, but for the label and the ceiling that are lent for it.
+/// +0 everywhere, but for the label and the ceiling that are lent for it. A +0
+/// is no support, so the count stays.
 fn put_back(p: &Problem, kept: &[usize], a: &mut Accepted) {
     let n = p.n as usize;
     for list in [
@@ -66,5 +67,4 @@ fn put_back(p: &Problem, kept: &[usize], a: &mut Accepted) {
         step.i = kept[step.i];
         step.j = kept[step.j];
     }
-    a.support = support(&a.home);
 }

@@ -34,7 +34,8 @@ pub struct Accepted {
     pub obj: f64,
     pub iterations: u64,
     pub reason: Reason,
-    /// How many places of `home` aren't zero. NaN counts, -0 doesn't.
+    /// The Rust's `nsupport`, asked of `home`: how many places are above
+    /// 100·2^-52 in magnitude.
     pub support: u64,
     /// What the Rust answers: place i has the weight at position order[i].
     pub crate_reading: Vec<f64>,
@@ -128,7 +129,7 @@ pub(crate) fn solve_judged(p: &Problem, trace: bool) -> Answer {
     let seen = watch::take();
     let events = seen.events;
     let outcome = match result {
-        Ok(svm) => Outcome::Accepted(read(p, &svm, seen)),
+        Ok(svm) => Outcome::Accepted(read(p, svm, seen)),
         Err(stopped) if stopped.is_refusal() => Outcome::Refused(Refusal {
             number: 11,
             index: 0,
@@ -176,8 +177,10 @@ fn run(p: &Problem) -> Svm<f64, f64> {
     }
 }
 
-fn read(p: &Problem, svm: &Svm<f64, f64>, seen: Seen) -> Accepted {
+fn read(p: &Problem, mut svm: Svm<f64, f64>, seen: Seen) -> Accepted {
+    // the published count looks at `alpha`, so home stands there for it
     let home = home(p, svm.r(), &seen);
+    let crate_reading = std::mem::replace(&mut svm.alpha, home);
     Accepted {
         rho: svm.rho,
         r: svm.r(),
@@ -187,9 +190,9 @@ fn read(p: &Problem, svm: &Svm<f64, f64>, seen: Seen) -> Accepted {
             ExitReason::ReachedThreshold => Reason::Threshold,
             ExitReason::ReachedIterations => Reason::Iterations,
         },
-        support: support(&home),
-        crate_reading: svm.alpha.clone(),
-        home,
+        support: svm.nsupport() as u64,
+        crate_reading,
+        home: svm.alpha,
         order: seen.order,
         weights: seen.weights,
         ceilings: seen.ceilings,
@@ -199,10 +202,6 @@ fn read(p: &Problem, svm: &Svm<f64, f64>, seen: Seen) -> Accepted {
         labels: seen.labels,
         trace: seen.trace,
     }
-}
-
-pub(crate) fn support(home: &[f64]) -> u64 {
-    home.iter().filter(|x| **x != 0.0).count() as u64
 }
 
 /// The home reading, with the sign and the division that the entry's fit gives

@@ -3,21 +3,21 @@
 
 use oracle::draw::NANS;
 use oracle::judge::faults;
-use oracle::marks::{is_own_inverse, Tally};
+use oracle::marks::{is_own_inverse, Owed, Tally};
 use oracle::problem::MOST_PASSES;
 use oracle::record::{record, Told};
 use oracle::run::canonical;
-use oracle::{draw, draw_retired, judge, solve, Accepted, Entry, Outcome, Problem};
+use oracle::{draw, draw_faint, draw_retired, judge, solve, Accepted, Entry, Outcome, Problem};
 
 type Draw = fn(u64) -> Problem;
-const BOTH: [Draw; 2] = [draw, draw_retired];
+const ALL: [Draw; 3] = [draw, draw_retired, draw_faint];
 
 const DRAWS: u64 = 100_000;
 
 #[test]
 fn a_seed_draws_the_same_problem_and_answer() {
     for seed in (0..3000).chain(u64::MAX - 100..=u64::MAX) {
-        for draw in BOTH {
+        for draw in ALL {
             let twice = [0, 1].map(|_| {
                 let p = draw(seed);
                 record(&p, &Told::of(&solve(&p, true)))
@@ -29,7 +29,7 @@ fn a_seed_draws_the_same_problem_and_answer() {
 
 #[test]
 fn draws_reach_every_kind() {
-    let mut tally = Tally::default();
+    let mut tally = Tally::owing(&[Owed::Some]);
     for seed in 0..DRAWS {
         let p = draw(seed);
         tally.add(&p, &solve(&p, false));
@@ -52,6 +52,19 @@ fn draws_reach_every_kind() {
     }
 }
 
+/// Every place at the support limit and every wrong rule of the count.
+#[test]
+fn faint_draws_reach_every_kind() {
+    let mut tally = Tally::owing(&[Owed::Faint]);
+    for seed in 0..20_000 {
+        let p = draw_faint(seed);
+        assert_eq!(judge(&p), None, "seed {seed}");
+        tally.add(&p, &solve(&p, false));
+    }
+    let wrong = tally.wrong();
+    assert!(wrong.is_empty(), "{wrong:?}\n{}", tally.lines().join("\n"));
+}
+
 fn same(a: f64, b: f64) -> bool {
     canonical(a) == canonical(b)
 }
@@ -59,7 +72,7 @@ fn same(a: f64, b: f64) -> bool {
 #[test]
 fn every_answer_agrees_with_itself() {
     for seed in 1_000_000..1_020_000 {
-        for draw in BOTH {
+        for draw in ALL {
             agrees_with_itself(&draw(seed), seed);
         }
     }
@@ -124,8 +137,8 @@ fn agrees(p: &Problem, a: &Accepted, seed: u64) {
     assert!(a.iterations <= p.budget, "seed {seed}");
     let ran_out = a.reason == oracle::Reason::Iterations;
     assert_eq!(ran_out, a.iterations == p.budget, "seed {seed}");
-    let zeros = a.home.iter().filter(|x| **x == 0.0).count();
-    assert_eq!(a.support, (n - zeros) as u64, "seed {seed}");
+    assert_eq!(a.support, support(&a.home), "seed {seed}");
+    assert_eq!(a.support, support(&a.crate_reading), "seed {seed}");
 
     // what the passes left is what stands at the end, where nothing moved
     if !p.shrinking {
@@ -141,10 +154,21 @@ fn agrees(p: &Problem, a: &Accepted, seed: u64) {
     }
 }
 
+/// Strictly above 100·2^-52 in magnitude, by the patterns: with the sign bit
+/// off those of numbers stand in their order up to infinity's, and NaN's behind.
+fn support(list: &[f64]) -> u64 {
+    let limit = 0x3d19_0000_0000_0000_u64;
+    let infinity = 0x7ff0_0000_0000_0000;
+    let patterns = list.iter().map(|x| x.to_bits() & !(1 << 63));
+    patterns
+        .filter(|x| (limit + 1..=infinity).contains(x))
+        .count() as u64
+}
+
 #[test]
 fn no_drawn_run_is_long() {
     let mut large = 0;
-    for p in (0..20_000).flat_map(|seed| BOTH.map(|draw| draw(seed))) {
+    for p in (0..20_000).flat_map(|seed| ALL.map(|draw| draw(seed))) {
         if judge(&p).is_none() && p.budget > 2000 {
             large += 1;
             let answer = solve(&p, false);

@@ -1,8 +1,9 @@
 //! The file of recorded answers: made again byte for byte, read back as it was
 //! written, and worth its room.
 
+use oracle::marks::Owed;
 use oracle::problem::{Entry, Problem, MOST_SAMPLES};
-use oracle::record::{check, chosen, file, read, record, Told, MOST_RECORDED_PASSES};
+use oracle::record::{check, chosen, file, read, record, Record, Told, MOST_RECORDED_PASSES};
 use oracle::solve;
 use std::fs;
 use std::path::Path;
@@ -39,6 +40,9 @@ fn every_answer_comes_out_again_and_every_kind_is_there() {
     let tally = check(&recorded()).expect("every answer comes out again");
     let wrong = tally.wrong();
     assert!(wrong.is_empty(), "{wrong:?}");
+    for (name, owed, count) in tally.carried() {
+        assert!(owed != Owed::Faint || count >= 4, "{count} {name}");
+    }
     assert!((3000..=4000).contains(&tally.total), "{}", tally.total);
 }
 
@@ -69,21 +73,24 @@ fn the_file_keeps_its_limits() {
     }
 }
 
+/// Where the retired records begin, and where those with faint weights do.
+const RETIRED: usize = 3431;
+const FAINT: usize = 3725;
+
+fn room(records: &[Record]) -> usize {
+    let each = records.iter();
+    each.map(|r| record(&r.problem, &r.told).len()).sum()
+}
+
 #[test]
-fn retired_records_stand_at_the_end() {
+fn retired_records_stand_behind_the_others() {
     let bytes = recorded();
     let records = read(&bytes).expect("the file is whole");
-    let first = records.partition_point(|r| r.problem.entry != Entry::Retired);
-    assert_eq!(first, 3431);
-    let (others, retired) = records.split_at(first);
+    let (others, retired) = records[..FAINT].split_at(RETIRED);
     assert!(others.iter().all(|r| r.problem.retired.is_empty()));
     assert!(retired.iter().all(|r| r.problem.entry == Entry::Retired));
-    assert!((290..=330).contains(&retired.len()), "{}", retired.len());
-    let room = |r: &[oracle::record::Record]| -> usize {
-        r.iter().map(|r| record(&r.problem, &r.told).len()).sum()
-    };
     assert_eq!(room(others) + 16, 3_496_312);
-    assert!(room(retired) < 400_000, "{} bytes", room(retired));
+    assert_eq!(room(retired), 354_464);
     for number in Entry::Retired.judged() {
         let of = retired.iter().filter(|r| r.told.refusal == number);
         assert!(of.count() >= 8, "refusal {number}");
@@ -101,6 +108,27 @@ fn retired_records_stand_at_the_end() {
         assert!(kinds(|k, n| k == 1 && n > 2), "all but one");
         assert!(kinds(|k, n| k == 0 && n > 1), "everybody");
         assert!(kinds(|_, n| n >= 64), "many samples");
+    }
+}
+
+/// Behind the retired records stand runs with weights near the support limit,
+/// of every entry. The edges themselves, by their patterns.
+#[test]
+fn faint_records_stand_at_the_end() {
+    let records = read(&recorded()).expect("the file is whole");
+    let faint = &records[FAINT..];
+    assert!(room(faint) < 40_000, "{} bytes", room(faint));
+    assert!(faint.iter().all(|r| r.told.refusal == 0));
+    let limit = 0x3d19_0000_0000_0000_u64;
+    for pattern in [limit, limit + 1, limit - 1, 1, 1e-15_f64.to_bits()] {
+        for pattern in [pattern, pattern | 1 << 63] {
+            let of = records.iter().filter(|r| r.told.home.contains(&pattern));
+            assert!(of.count() >= 4, "{pattern:x}");
+        }
+    }
+    for entry in Entry::ALL {
+        let of = faint.iter().filter(|r| r.problem.entry == entry);
+        assert!(of.count() >= 4, "{}", entry.name());
     }
 }
 
@@ -156,11 +184,11 @@ fn a_changed_file_is_noticed() {
     let wrong = check(&other).expect_err("a changed rho is noticed");
     assert_eq!(wrong.len(), 1);
 
-    // the last record has 100 samples in form 1, so its retired bytes stand
-    // behind 20 words, 10,000 and 100 bytes in words, 300 words and one more
-    let last = read(&bytes).expect("the file is whole").pop();
-    let last = last.expect("there is a last record");
-    let start = bytes.len() - record(&last.problem, &last.told).len();
+    // the last retired record has 100 samples in form 1, so its retired bytes
+    // stand behind 20 words, 10,000 and 100 bytes in words, 300 words and one more
+    let records = read(&bytes).expect("the file is whole");
+    let last = &records[FAINT - 1];
+    let start = 16 + room(&records[..FAINT - 1]);
     let retired = start + 8 * (20 + 1250 + 13 + 300 + 1);
     let lent = &bytes[retired..retired + 100];
     assert_eq!(lent, last.problem.retired);

@@ -1,7 +1,7 @@
 //! Retired samples: passed over, put back as +0, and without a say.
 
 use oracle::draw::redraw_retired;
-use oracle::marks::Tally;
+use oracle::marks::{Owed, Tally};
 use oracle::problem::{LIMIT, MOST_PASSES};
 use oracle::random::Random;
 use oracle::record::Told;
@@ -189,7 +189,7 @@ fn what_is_left() {
 
 #[test]
 fn draws_with_retired_samples_reach_every_kind() {
-    let mut tally = Tally::default();
+    let mut tally = Tally::owing(&[Owed::Retired]);
     for seed in 0..20_000 {
         let p = draw_retired(seed);
         assert_eq!(p.entry, Entry::Retired);
@@ -197,7 +197,6 @@ fn draws_with_retired_samples_reach_every_kind() {
     }
     let wrong = tally.wrong();
     assert!(wrong.is_empty(), "{wrong:?}\n{}", tally.lines().join("\n"));
-    assert_eq!((tally.total, tally.retired), (20_000, 20_000));
     // passing over is what makes the answer
     let told = tally.count("retired: another answer if nobody were passed over");
     assert!(told > 8000, "{told}");

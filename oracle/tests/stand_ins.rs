@@ -91,6 +91,32 @@ fn the_support_vectors_are_the_samples_with_a_weight() {
     }
 }
 
+/// The published count is above 100·2^-52 in magnitude, strictly: what the
+/// oracle asks of the home list.
+#[test]
+fn the_support_count_is_above_the_limit() {
+    let kernel = Kernel::given(1, vec![1.0]);
+    let dataset = ArrayView2::from_rows(1, 1, &[0.0]);
+    let mut svm = fit_c(params(), dataset, kernel, &[true], 1.0, 1.0);
+    let limit = 0x3d19_0000_0000_0000;
+    for (x, counted) in [
+        (f64::from_bits(limit), 0),
+        (f64::from_bits(limit + 1), 1),
+        (f64::from_bits(limit - 1), 0),
+        (5e-324, 0),
+        (1e-15, 0),
+        (1.0, 1),
+        (f64::INFINITY, 1),
+        (f64::NAN, 0),
+        (0.0, 0),
+    ] {
+        for x in [x, -x] {
+            svm.alpha = vec![x];
+            assert_eq!(svm.nsupport(), counted, "{x:?}");
+        }
+    }
+}
+
 #[test]
 fn the_nu_fit_of_regression_folds_its_two_halves() {
     let x = [1.0, 2.0, 3.0];

@@ -59,6 +59,8 @@ pub use refusal::Refusal;
 pub const MOST_SAMPLES: usize = 512;
 /// The largest budget.
 pub const MOST_PASSES: u64 = 10_000_000;
+/// A weight counts as support where its magnitude is above this: 100*2^-52, as in `linfa-svm`.
+pub const SUPPORT_LIMIT: f64 = 2.220446049250313e-14;
 /// What a call needs of the stack at the most, in bytes.
 pub const STACK_BYTES: usize = 65_536;
 
@@ -142,7 +144,8 @@ pub struct Answer {
     pub iterations: u64,
     /// Why the run ended.
     pub reason: ExitReason,
-    /// How many places of `home` aren't zero; NaN counts, -0 doesn't.
+    /// How many places of `home` are above [`SUPPORT_LIMIT`] in magnitude; neither a NaN nor a zero is. A weight that isn't counted and
+    /// isn't 0 still has its say in a decision.
     pub support: u64,
     /// What `linfa-svm` answers: place i has the weight at position order\[i\].
     pub crate_reading: Vec<f64>,

@@ -1,23 +1,22 @@
 //! What the documents show is what the files say.
-use altuliscia::{MOST_PASSES, MOST_SAMPLES, STACK_BYTES};
+use altuliscia::{MOST_PASSES, MOST_SAMPLES, STACK_BYTES, SUPPORT_LIMIT};
 
 #[test]
 fn constants_are_the_headers() {
     let text = include_str!("../../../include/altuliscia.h");
-    let defined = |name: &str| -> u64 {
+    let defined = |name: &str| -> &str {
         let line = text
             .lines()
             .find_map(|l| l.strip_prefix(&format!("#define {} ", name)));
-        line.unwrap()
-            .split_whitespace()
-            .next()
-            .unwrap()
-            .parse()
-            .unwrap()
+        line.unwrap().split_whitespace().next().unwrap()
     };
-    assert_eq!(defined("ALTULISCIA_MOST_SAMPLES"), MOST_SAMPLES as u64);
-    assert_eq!(defined("ALTULISCIA_MOST_PASSES"), MOST_PASSES);
-    assert_eq!(defined("ALTULISCIA_STACK_BYTES"), STACK_BYTES as u64);
+    let number = |name: &str| -> u64 { defined(name).parse().unwrap() };
+    assert_eq!(number("ALTULISCIA_MOST_SAMPLES"), MOST_SAMPLES as u64);
+    assert_eq!(number("ALTULISCIA_MOST_PASSES"), MOST_PASSES);
+    assert_eq!(number("ALTULISCIA_STACK_BYTES"), STACK_BYTES as u64);
+    let limit: f64 = defined("ALTULISCIA_SUPPORT_LIMIT").parse().unwrap();
+    assert_eq!(limit.to_bits(), SUPPORT_LIMIT.to_bits());
+    assert_eq!(limit, 100.0 * f64::EPSILON);
 }
 
 /// The lines of the README between a fence of that kind and its end, without their indent.

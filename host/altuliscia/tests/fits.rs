@@ -58,6 +58,42 @@ fn one_label_alone_has_no_step() {
     );
 }
 
+/// Both weights rise to their ceiling, and r is NaN where a label is missing.
+#[test]
+fn support_is_what_is_above_the_limit() {
+    let past = f64::from_bits(SUPPORT_LIMIT.to_bits() + 1);
+    let short = f64::from_bits(SUPPORT_LIMIT.to_bits() - 1);
+    for (cost, support) in [
+        (5e-324, 0),
+        (1e-15, 0),
+        (short, 0),
+        (SUPPORT_LIMIT, 0),
+        (past, 2),
+        (1e-13, 2),
+    ] {
+        let answer = fit_c(&two(), cost, cost, &Options::default()).unwrap();
+        assert_eq!((answer.home, answer.support), (vec![cost, -cost], support));
+        let retired = fit_c_retired(&two(), cost, cost, &[false; 2], &Options::default());
+        assert_eq!(retired.unwrap().support, support);
+        let general = General {
+            problem: two(),
+            ceilings: &[cost, 1.0],
+            alphas: &[cost, 1.0],
+            linear: &[-1.0; 2],
+            nu_rule: false,
+        };
+        let answer = fit_general(&general, &Options::default()).unwrap();
+        assert_eq!(answer.support, 1 + support / 2);
+    }
+    let alike = Problem {
+        matrix: &IDENTITY,
+        labels: &[true, true],
+    };
+    let answer = fit_nu(&alike, 0.5, &Options::default()).unwrap();
+    assert!(answer.home.iter().all(|w| w.is_nan()));
+    assert_eq!(answer.support, 0);
+}
+
 /// The general problem whose tail of so many samples is given up again and again.
 fn tail(many: usize) -> Result<Answer, Refusal> {
     let n = 3 + many;

@@ -80,13 +80,15 @@ pub const TRAIN: &str = concat!(
 Trains the problem of FILE, writes a model file and says how the run ended: the lines that
 svm-train ends with, the exit reason (threshold: no pair is left to mend, with -h 1: among the
 samples still active; iterations: the budget ran out), and a note where the model is worse than it
-looks; with --retired also who is retired.
+looks; with --retired also who is retired. nSV counts the weights above 100*2^-52 in magnitude, and
+nBSV those of them that are at their ceiling or above it.
 With -q only the notes, and the exit reason where it is iterations, are told.
 
 MODEL is what LIBSVM's svm-predict reads for a precomputed kernel. Where it isn't named it is
-FILE's name with .model, in this folder. Its weights are each sample's own (the home reading). It
-is written whole or not at all, and replaces neither FILE nor the file of --retired nor one that is
-read-only. A retired sample isn't in it, and every other is called by its own serial number.
+FILE's name with .model, in this folder. Its weights are each sample's own (the home reading), all
+that aren't 0; where these are more than nSV, a line says how many and why. It is written whole or
+not at all, and replaces neither FILE nor the file of --retired nor one that is read-only. A retired
+sample isn't in it, and every other is called by its own serial number.
 
 ",
     options!(),

@@ -12,10 +12,14 @@ pub fn double(x: f64) -> String {
     }
 }
 
-/// The samples of a class whose weight isn't zero.
-fn support(s: &Samples, answer: &Answer, class: Option<u8>) -> Vec<String> {
-    let weighed = (0..s.n).filter(|k| answer.home[*k] != 0.0);
-    weighed
+/// The samples that a model lists: whose weight isn't zero. However small it is, a decision needs it.
+pub fn listed(answer: &Answer) -> impl Iterator<Item = usize> + '_ {
+    (0..answer.home.len()).filter(|k| answer.home[*k] != 0.0)
+}
+
+/// The lines of a class.
+fn lines(s: &Samples, answer: &Answer, class: Option<u8>) -> Vec<String> {
+    listed(answer)
         .filter(|k| class.map_or(true, |label| s.labels[*k] == label))
         .map(|k| format!("{} 0:{}", double(answer.home[k]), s.serials[k]))
         .collect()
@@ -29,8 +33,8 @@ pub fn text(s: &Samples, settings: &Settings, answer: &Answer) -> String {
         Fit::OneClass => "one_class",
     };
     let classes: Vec<Vec<String>> = match settings.fit {
-        Fit::OneClass => vec![support(s, answer, None)],
-        _ => vec![support(s, answer, Some(1)), support(s, answer, Some(0))],
+        Fit::OneClass => vec![lines(s, answer, None)],
+        _ => vec![lines(s, answer, Some(1)), lines(s, answer, Some(0))],
     };
     let mut lines = vec![
         format!("svm_type {}", kind),

@@ -1,8 +1,8 @@
 //! What is told of an answer.
 use crate::arguments::{Fit, Settings};
-use crate::model::double;
+use crate::model::{double, listed};
 use crate::problem::Samples;
-use altuliscia::{Answer, ExitReason};
+use altuliscia::{Answer, ExitReason, SUPPORT_LIMIT};
 use std::cmp::Ordering;
 
 /// A double as `%f` of C writes it, but for what would have more than sixteen digits before the point.
@@ -58,17 +58,41 @@ pub fn summary(s: &Samples, settings: &Settings, ceilings: (f64, f64), a: &Answe
         _ => {}
     }
     lines.push(format!("obj = {}, rho = {}", six(a.obj), six(a.rho)));
+    // Of the weights that nSV counts.
     let bounded = (0..s.n)
+        .filter(|k| a.home[*k].abs() > SUPPORT_LIMIT)
         .filter(|k| ceiling(s, settings.fit, ceilings, a, *k).is_some())
         .count();
     lines.push(format!("nSV = {}, nBSV = {}", a.support, bounded));
     if settings.fit != Fit::OneClass {
         lines.push(format!("Total nSV = {}", a.support));
     }
+    lines.extend(uncounted(a));
     lines.extend(retired(s));
     lines.push(ended(settings, a));
     lines.extend(notes(s, settings, a));
     lines.join("\n") + "\n"
+}
+
+/// Where the model lists more weights than nSV counts: how many it lists, and what the others are.
+fn uncounted(a: &Answer) -> Option<String> {
+    let all = listed(a).count();
+    let others = |what: &str, test: fn(f64) -> bool| {
+        let count = listed(a).filter(|k| test(a.home[*k])).count();
+        (count > 0).then(|| format!("{} of them {}, ", count, what))
+    };
+    let small = others("at most 100*2^-52 in magnitude", |w| {
+        w.abs() <= SUPPORT_LIMIT
+    });
+    let told: String = [small, others("NaN", f64::is_nan)]
+        .into_iter()
+        .flatten()
+        .collect();
+    let told = format!(
+        "weights in the model: {} ({}not counted as support)",
+        all, told
+    );
+    (all as u64 != a.support).then_some(told)
 }
 
 /// The lines for standard error, where no summary is told: how the run ended, or with -q only what isn't well.

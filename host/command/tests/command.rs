@@ -84,6 +84,67 @@ fn costs_are_multiplied_by_label() {
     );
 }
 
+/// Three negative weights at a ceiling below 100*2^-52, and a positive one that balances them and is above it.
+#[test]
+fn weights_that_are_listed_and_not_counted_are_told() {
+    let f = folder("faint");
+    let text = "1 0:1 1:1 2:0 3:0 4:0\n-1 0:2 1:0 2:1 3:0 4:0\n-1 0:3 1:0 2:0 3:1 4:0\n-1 0:4 1:0 2:0 3:0 4:1\n";
+    let (path, model) = (file(&f, "file", text.as_bytes()), file(&f, "model", b"old"));
+    let told_of = |options: &str| {
+        let line = format!("train {} FILE MODEL", options);
+        let told = told(&line, &path, &model).unwrap();
+        let start = told.find("nSV").unwrap();
+        let end = told.find("exit").unwrap();
+        (
+            told[start..end].to_string(),
+            fs::read_to_string(&model).unwrap(),
+        )
+    };
+    let (counts, listed) = told_of("-w-1 1e-14");
+    assert_eq!(
+        counts,
+        "nSV = 1, nBSV = 0\nTotal nSV = 1\nweights in the model: 4 (3 of them at most 100*2^-52 in magnitude, not counted as support)\n"
+    );
+    assert!(listed.contains("\ntotal_sv 4\n") && listed.contains("\nnr_sv 1 3\n"));
+    assert!(listed.ends_with("SV\n3e-14 0:1\n-1e-14 0:2\n-1e-14 0:3\n-1e-14 0:4\n"));
+    // The limit itself, where two rise to it, and the next double above it.
+    let (counts, listed) = told_of("-c 2.220446049250313e-14");
+    assert_eq!(
+        counts,
+        "nSV = 0, nBSV = 0\nTotal nSV = 0\nweights in the model: 2 (2 of them at most 100*2^-52 in magnitude, not counted as support)\n"
+    );
+    assert!(
+        listed.contains("\ntotal_sv 2\n") && listed.contains("SV\n2.220446049250313e-14 0:1\n")
+    );
+    let (counts, listed) = told_of("-c 2.2204460492503134e-14");
+    assert_eq!(counts, "nSV = 2, nBSV = 2\nTotal nSV = 2\n");
+    assert!(listed.contains("\ntotal_sv 2\n"));
+    // One class has no line 'Total nSV'.
+    let (counts, _) = told_of("-s 2 -n 5e-15");
+    assert_eq!(
+        counts,
+        "nSV = 0, nBSV = 0\nweights in the model: 1 (1 of them at most 100*2^-52 in magnitude, not counted as support)\n"
+    );
+    let (out, err) = both("train -q -w-1 1e-14 FILE MODEL", &path, &model).unwrap();
+    assert_eq!((out.as_str(), err.as_str()), ("", ""));
+    let help = told("train --help", "", "").unwrap();
+    assert!(help.contains("nSV counts the weights above 100*2^-52 in magnitude"));
+    assert!(help.contains("where these are more than nSV, a line says how many and why."));
+}
+
+/// Every entry 0 makes r 0 under nu: a weight is divided by it, and so is a 0.
+#[test]
+fn weights_that_are_nan_are_listed_and_not_counted() {
+    let f = folder("nan");
+    let path = file(&f, "zeros", &own(4, &[0.0; 16], &[1, 1, 0, 0]));
+    let model = file(&f, "model", b"old");
+    let text = told("train -s 1 -n 0.25 FILE MODEL", &path, &model).unwrap();
+    let counts = "nSV = 2, nBSV = 0\nTotal nSV = 2\nweights in the model: 4 (2 of them NaN, not counted as support)\n";
+    assert!(text.contains(counts), "{}", text);
+    let listed = fs::read_to_string(&model).unwrap();
+    assert!(listed.ends_with("SV\ninf 0:1\nnan 0:2\n-inf 0:3\nnan 0:4\n"));
+}
+
 /// A problem that has a weight above its ceiling where the second class has twice the cost of the first.
 const OVER: &str = "\
 1 0:1 1:8 2:-2 3:4 4:-2 5:6 6:12 7:12 8:4 9:6 10:-2

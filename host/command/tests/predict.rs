@@ -1,5 +1,7 @@
 //! LIBSVM's svm-predict reads the model files and decides as the library's weights do.
-use altuliscia::{fit_c, fit_c_retired, fit_nu, fit_one_class, Answer, OneClass, Options, Problem};
+use altuliscia::{
+    fit_c, fit_c_retired, fit_nu, fit_one_class, Answer, OneClass, Options, Problem, SUPPORT_LIMIT,
+};
 use captions::{decision, Figures};
 use std::fs;
 use std::io::Write;
@@ -41,6 +43,12 @@ fn predicted(folder: &Path, train: &str, held: &str, options: &str) -> Vec<i32> 
     let mut words = vec!["train".to_string(), path("train"), path("model")];
     words.extend(options.split_whitespace().map(str::to_string));
     command::run(&words, &mut Vec::new(), &mut Vec::new(), false).unwrap();
+    labelled(folder)
+}
+
+/// What svm-predict labels by the files that are there.
+fn labelled(folder: &Path) -> Vec<i32> {
+    let path = |name: &str| folder.join(name).to_str().unwrap().to_string();
     let files = ["held", "model", "labels"].map(path);
     let output = Command::new("svm-predict").args(&files).output().unwrap();
     assert!(output.status.success(), "{:?}", output);
@@ -133,6 +141,56 @@ fn every_held_out_caption_is_labelled_as_decided() {
         }
     }
     assert_eq!(compared, 7 * (372 + 416));
+}
+
+/// A kernel of large numbers: with all of them times 2^47 and the cost over 2^47 every weight is its own over 2^47, and each decision the
+/// same. Of the weights above 0 only some are above 100*2^-52; svm-predict needs them all.
+#[test]
+fn weights_that_are_not_counted_have_their_say() {
+    if !there() {
+        return;
+    }
+    let scale = 2f64.powi(47);
+    let scaled = |text: String| -> String {
+        let value = |word: &str| match word.split_once(':') {
+            Some((k, x)) if k != "0" => format!(" {}:{:?}", k, x.parse::<f64>().unwrap() * scale),
+            _ => format!(" {}", word),
+        };
+        let line = |l: &str| l.split(' ').map(value).collect::<String>() + "\n";
+        text.lines().map(|l| line(l)[1..].to_string()).collect()
+    };
+    for (name, text) in PAIRS {
+        let figures = Figures::read(text).unwrap();
+        let (train, held) = (figures.libsvm_train(64), figures.libsvm_held(64));
+        let folder = folder(&format!("faint-{}", name));
+        let expected = predicted(&folder, &train, &held, "-c 10");
+        let cost = format!("-c {:?}", 10.0 / scale);
+        let found = predicted(&folder, &scaled(train), &scaled(held), &cost);
+        assert_eq!(found, expected);
+        let model = fs::read_to_string(folder.join("model")).unwrap();
+        let weights = model.lines().skip_while(|l| *l != "SV").skip(1);
+        let weights = weights.map(|l| l.split(' ').next().unwrap().parse::<f64>().unwrap());
+        let weights: Vec<f64> = weights.collect();
+        let counted = weights.iter().filter(|w| w.abs() > SUPPORT_LIMIT).count();
+        assert!(counted > 10 && weights.len() > counted + 10, "{}", counted);
+        // Without the others something is labelled otherwise.
+        let lines = model.lines().filter(|l| match l.split_once(" 0:") {
+            Some((weight, _)) => weight.parse::<f64>().unwrap().abs() > SUPPORT_LIMIT,
+            None => true,
+        });
+        let fewer = format!("total_sv {}", counted);
+        let of_class = |sign: f64| weights.iter().filter(move |w| **w * sign > SUPPORT_LIMIT);
+        let each = format!("nr_sv {} {}", of_class(1.0).count(), of_class(-1.0).count());
+        let cut: String = lines
+            .map(|l| match l.split(' ').next() {
+                Some("total_sv") => fewer.clone() + "\n",
+                Some("nr_sv") => each.clone() + "\n",
+                _ => l.to_string() + "\n",
+            })
+            .collect();
+        fs::write(folder.join("model"), cut).unwrap();
+        assert_ne!(labelled(&folder), expected);
+    }
 }
 
 /// Whatever the labels are called and whichever comes first, a caption gets its own language's label.

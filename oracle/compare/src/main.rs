@@ -2,6 +2,7 @@
 mod call;
 mod called;
 mod captioned;
+mod faint;
 mod lent;
 mod made;
 mod reached;
@@ -21,6 +22,8 @@ compare c FIRST LAST
 compare retired FIRST LAST
     the C function with retired samples, likewise; each accepted call again with other retired samples, or by the general
     function where nobody is retired: the same bytes must be written
+compare faint FIRST LAST
+    all five C functions on problems with weights near the support limit, likewise
 compare recorded FILE
     the proved run by itself, on the recorded general problems: order and weights by position, rho, r, obj, iterations, reason,
     refusal 11, and after each pass that is recorded the weights of its pair; and the C function on those with retired samples
@@ -37,6 +40,9 @@ fn main() -> ExitCode {
         ["c", first, last] => both(first, last).map(|(first, last)| called::compare(first, last)),
         ["retired", first, last] => {
             both(first, last).map(|(first, last)| retired::compare(first, last))
+        }
+        ["faint", first, last] => {
+            both(first, last).map(|(first, last)| faint::compare(first, last))
         }
         ["recorded", file] => recorded::compare(file),
         ["captions", ..] => captioned::compare(&words[1..]),

@@ -51,7 +51,7 @@ fn general(g: &mut Random) -> Problem {
 }
 
 /// Nobody is retired, or everybody, all but one, one alone, or some.
-fn bytes(g: &mut Random, n: usize) -> Vec<u8> {
+pub(super) fn bytes(g: &mut Random, n: usize) -> Vec<u8> {
     let one = g.place(n);
     match g.below(12) {
         0..=1 => vec![0; n],
@@ -65,7 +65,7 @@ fn bytes(g: &mut Random, n: usize) -> Vec<u8> {
 
 /// The samples of p with one to six retired ones in between, which have zeros
 /// and a ceiling of 1 as yet.
-fn among(g: &mut Random, p: &Problem) -> Problem {
+pub(super) fn among(g: &mut Random, p: &Problem) -> Problem {
     let old = p.n as usize;
     let n = old + 1 + g.place(6);
     let mut places: Vec<usize> = (0..n).collect();
