@@ -43,7 +43,7 @@ import struct
 from array import array
 from itertools import compress
 
-__version__ = "1.1.0"
+__version__ = "1.2.0"
 
 MOST_SAMPLES = 512
 MOST_PASSES = 10_000_000
