@@ -80,7 +80,11 @@ fn count(x: f64, t: usize) -> usize
     requires { ⌜ t < 512 ⌝ }
     ensures { λ z. ⌜ (z ≡ countedBy x t) × (z ≤ t + 1) ⌝ }
 {
-    if floats::abs(x) > SUPPORT_LIMIT { t + 1 } else { t }
+    if floats::abs(x) > SUPPORT_LIMIT {
+        t + 1
+    } else {
+        t
+    }
 }
 
 fn support(h: &[f64], n: usize) -> usize

@@ -21,17 +21,7 @@ pub fn find_pair(
 ) -> Pair
     ensures { λ p. ⌜ p ≡ foundPair wi wj gi gj di dj r agree ⌝ }
 {
-    update::clipped_pair(
-        wi,
-        wj,
-        gi,
-        gj,
-        di,
-        dj,
-        r,
-        agree,
-        Alpha::curvature_floor(),
-    )
+    update::clipped_pair(wi, wj, gi, gj, di, dj, r, agree, Alpha::curvature_floor())
 }
 
 // A weight and its ceiling, each from its eight bytes.
