@@ -2,13 +2,13 @@
 use Prim.Native.Nat.{ℕ, _≤_, _<_}
 use mathlib.Core.Bool.{Bool, true, false, cond}
 use mathlib.Core.List.{List, [], _∷_}
-use mathlib.Core.Path.{_≡_, refl, _∙_}
+use mathlib.Core.Path.{_≡_, refl, ap, _∙_}
 use native.Mathlib.Nat.{mod-eq-of-lt}
 use native.Mathlib.Omega.{arith}
 use borrow.Author.Tests.{ltb-false, lt-ltb, le-ltb}
 use lib.Dec.{ltb}
-use lib.Ieee.{binary64}
-use lib.Ieee.Bits.{ofBits-fits, toBits-lt}
+use lib.Ieee.{binary64, ofBits}
+use lib.Ieee.Bits.{ofBits-fits, toBits-lt, ofBits-toBits}
 use lib.ListN.{length}
 use Rattle.altuliscia.specs.Functions.{asFloat, pairHanded, pairHost}
 use Rattle.boxed.specs.Range.{Ceiling, In, BothHeld}
@@ -18,6 +18,7 @@ use Rattle.finder.proofs.Doubles.{Doubled, found-doubled}
 use Rattle.hosted.specs.Hosted.{storedTo}
 use Rattle.rounding.specs.Units.{NotNan}
 use Rattle.update.specs.declared.Pair.{Pair}
+use Rattle.wire.specs.Wire.{digits}
 use Rattle.handed.specs.Trail.{pairCalled, stepCalled, GivesPair}
 use Rattle.handed.proofs.Stored.{stored-at, stored-beyond}
 
@@ -55,7 +56,19 @@ module _ (ai bi aj bj gi gj di dj r agree : ℕ) (out : List ℕ) where
           })
 
 -- one common ceiling b in range, both weights in the box and a step that isn't NaN: both stay in it
-pub pair-called-box : (b ai aj gi gj di dj r agree : ℕ) → Ceiling (asFloat b) → In (asFloat b) (asFloat ai) → In (asFloat b) (asFloat aj) → NotNan (stepCalled gi gj di dj r agree)
+in-box : (b ai aj gi gj di dj r agree : ℕ) → Ceiling (asFloat b) → In (asFloat b) (asFloat ai) → In (asFloat b) (asFloat aj) → NotNan (stepCalled gi gj di dj r agree)
     → BothHeld (asFloat b) (pairCalled ai b aj b gi gj di dj r agree)
-pair-called-box b ai aj gi gj di dj r agree c x y h =
+in-box b ai aj gi gj di dj r agree c x y h =
     found-box (asFloat b) c _ _ (record { upper = refl; value = x }) (record { upper = refl; value = y }) (asFloat gi) (asFloat gj) (asFloat di) (asFloat dj) (asFloat r) _ h
+
+-- where it answers 0, the two numbers that it wrote
+pub pair-called-box : (b ai aj gi gj di dj r agree : ℕ) (out : List ℕ) → Ceiling (asFloat b) → In (asFloat b) (asFloat ai) → In (asFloat b) (asFloat aj) → NotNan (stepCalled gi gj di dj r agree)
+    → pairHost ai b aj b gi gj di dj r agree out .code ≡ 0
+    → In (asFloat b) (asFloat (digits (pairHost ai b aj b gi gj di dj r agree out .pair) 0 8)) × In (asFloat b) (asFloat (digits (pairHost ai b aj b gi gj di dj r agree out .pair) 8 8))
+pair-called-box b ai aj gi gj di dj r agree out c x y h z =
+    let held = in-box b ai aj gi gj di dj r agree c x y h in
+    let w = pair-gives ai b aj b gi gj di dj r agree out z in
+    let p = pairCalled ai b aj b gi gj di dj r agree in
+    let ei = ap (ofBits binary64) (w .i) ∙ ofBits-toBits binary64 (p .i .value) (held .i .value .number .fit) in
+    let ej = ap (ofBits binary64) (w .j) ∙ ofBits-toBits binary64 (p .j .value) (held .j .value .number .fit) in
+    (rw ei (held .i .value), rw ej (held .j .value))

@@ -8,10 +8,10 @@ use lib.Ieee.{Float, binary64, toBits}
 use Rattle.alpha.specs.Weight.{floor}
 use Rattle.altuliscia.specs.Functions.{isOn, generalHost, cHost, nuHost, oneClassHost}
 use Rattle.answer.specs.Lent.{Whole}
-use Rattle.hosted.specs.Hosted.{Handed}
+use Rattle.hosted.specs.Hosted.{room, Handed}
 use Rattle.promises.specs.Fit.{Fit}
 use Rattle.promises.proofs.Home.{served-home}
-use Rattle.promises.proofs.Trail.{served-weights, served-shown}
+use Rattle.promises.proofs.Trail.{run-begins, steps-begin, served-weights, served-shown}
 use Rattle.handed.specs.Gives.{Gives}
 use Rattle.handed.specs.Trail.{TrailedBytes}
 use Rattle.handed.specs.Trains.{generalTrains, cTrains, nuTrains, oneClassTrains}
@@ -20,11 +20,13 @@ use Rattle.handed.proofs.Threshold.{ran-iterations}
 
 trailed : {k : Fit} {m cr h an : List ℕ} {budget : ℕ} {w : Whole} {o : Handed} → Ran k m cr h an budget w o → Gives k m budget o
     → k .given .shrinking ≡ false → k .given .floor ≡ floor → TrailedBytes k m budget o
-trailed r v off plain = record {
+trailed {k = k} {m = m} {budget = budget} r v off plain = record {
   weights = λ s h.
       v .home s h
       ∙ ap (toBits binary64) (sym (served-home (r .served) (r .out .answer) (r .out .accepted) s h) ∙ served-weights (r .served) off (r .out .answer) (r .out .accepted) s h);
   steps = λ q h. served-shown (r .served) off plain q (rw (ran-iterations r .0) at h);
+  runs-on = run-begins k m room budget;
+  steps-on = steps-begin k m room budget;
 }
 
 pub general-called-trail : (n : ℕ) (m l c a p : List ℕ) (nurule eps shrinking budget : ℕ) (cr h an : List ℕ) → generalHost n m l c a p nurule eps shrinking budget cr h an .code ≡ 0

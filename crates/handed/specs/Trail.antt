@@ -1,7 +1,7 @@
 -- What a C function's bytes tell of its run with shrinking off, and what the pair finder's are.
-use Prim.Native.Nat.{ℕ, _*_, _<_}
+use Prim.Native.Nat.{ℕ, _+_, _*_, _<_}
 use mathlib.Core.Bool.{Bool}
-use mathlib.Core.List.{List}
+use mathlib.Core.List.{List, _++_}
 use mathlib.Core.Path.{_≡_}
 use lib.Ieee.{Float, binary64, toBits}
 use lib.ListN.{getD}
@@ -10,9 +10,10 @@ use Rattle.altuliscia.specs.Functions.{isOn, asFloat, PairHanded}
 use Rattle.answer.specs.Answer.{coefficientOf}
 use Rattle.finder.specs.Found.{foundPair, foundStep}
 use Rattle.hosted.specs.Hosted.{room, Handed}
-use Rattle.promises.specs.Fit.{Fit, weightAfter, stepsTaken, rOf}
+use Rattle.promises.specs.Fit.{Fit, after, weightAfter, stepsTaken, rOf}
 use Rattle.promises.specs.Leaves.{Beyond}
-use Rattle.promises.specs.Trail.{labelLent, noStep, ShownStep}
+use Rattle.promises.specs.Trail.{laterSteps, labelLent, noStep, ShownStep}
+use Rattle.solver.specs.Pass.{runs}
 use Rattle.update.specs.declared.Pair.{Pair}
 use Rattle.wire.specs.Wire.{digits}
 
@@ -24,6 +25,9 @@ pub record TrailedBytes (k : Fit) (m : List ℕ) (budget : ℕ) (o : Handed) : T
   -- each of its iterations is a step of the pair finder
   pub steps : (q : ℕ) → q < digits (o .answer) 48 8
       → ShownStep k m room budget q (getD (stepsTaken k m room budget) q noStep .i) (getD (stepsTaken k m room budget) q noStep .j)
+  -- a call with a larger budget goes on from there, with the same steps before its own
+  pub runs-on : (u : ℕ) → after k m room (u + budget) ≡ runs (k .given) m (k .ceilings) (after k m room budget) u
+  pub steps-on : (u : ℕ) → stepsTaken k m room (u + budget) ≡ stepsTaken k m room budget ++ laterSteps k m room budget u
 
 -- ---- the pair finder, by the numbers that hold its floats' bytes
 

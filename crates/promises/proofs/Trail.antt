@@ -1,5 +1,5 @@
--- A finger on one weight: a call with a smaller budget answers the weights of the first passes; and, with shrinking off, each step leaves what the
--- pair finder says. Assumes nothing.
+-- A finger on one weight: each step leaves what the pair finder says (`..-found`); a longer run begins with the shorter one (`run-begins`,
+-- `steps-begin`); and with shrinking off home has the weights after as many passes as the budget has (`..-trail`). Assumes nothing.
 use Prim.Native.Nat.{ℕ, suc, _+_, _*_, _≤_, _<_}
 use mathlib.Core.Bool.{Bool, true, false}
 use mathlib.Core.List.{List, _++_}
@@ -19,26 +19,27 @@ use Rattle.classification.specs.Still.{Still}
 use Rattle.classification.proofs.Still.{runs-still}
 use Rattle.extreme.specs.declared.Choice.the-variants.{Pair}
 use Rattle.finder.specs.Found.{foundPair}
-use Rattle.fits.proofs.Loaded.{sample-loaded, index-loaded}
+use Rattle.fits.proofs.Loaded.{weight-loaded, sample-loaded, index-loaded}
 use Rattle.kernel.specs.Matrix.{entryAt}
 use Rattle.kernel.specs.Row.{kernelIndex, rowAt}
 use Rattle.readings.specs.Order.{weightIn}
 use Rattle.solver.specs.End.{trained}
-use Rattle.solver.specs.Pass.{passed, next, runs}
+use Rattle.solver.specs.Pass.{countedDown, passed, next, runs}
 use Rattle.solver.specs.Run.{problemOf, Full, goes}
 use Rattle.solver.specs.declared.Given.{Given}
 use Rattle.state.specs.Fields.{gradient, alpha, diagonal, row, sample}
 use Rattle.state.specs.Lists.{Problem, State}
-use Rattle.trace.specs.Trace.{Step, stepAt, startOf}
+use Rattle.trace.specs.Trace.{Step, lookAt, stepAt, startOf}
 use Rattle.trace.proofs.Kept.{Keeps}
 use Rattle.trace.proofs.Left.{each-step, step-left}
 use Rattle.trace.proofs.Off.{closed-off, step-off}
+use Rattle.trace.proofs.Rests.{same-started}
 use Rattle.trace.proofs.Trace.{runs-more, traced-more}
 use Rattle.update.specs.Update.{pairAt, updatedState}
 use Rattle.update.specs.declared.Pair as Update
 use Rattle.update.proofs.Left.{alpha-i, alpha-j, alpha-other, gradient-active}
 use Rattle.promises.specs.Fit.{Fit, generalFit, cFit, nuFit, oneClassFit, startFrom, after, weightAfter, pairAfter, stepsTaken, rOf}
-use Rattle.promises.specs.Trail.{laterSteps, gradientAfter, labelLent, entryLent, foundAfter, StepsWith, ShownStep, Trailed, noStep}
+use Rattle.promises.specs.Trail.{foundAt, laterSteps, gradientAfter, labelLent, entryLent, foundAfter, StepsWith, ShownStep, FoundStep, Trailed, noStep}
 use Rattle.promises.proofs.Alike.{home-own}
 use Rattle.promises.proofs.Entries.{general-served, c-served, nu-served, one-class-served}
 use Rattle.promises.proofs.Home.{served-at}
@@ -53,6 +54,25 @@ module _ (k : Fit) (m : List ℕ) (d : Lent) (t u : ℕ) where
 
   pub steps-begin : stepsTaken k m d (u + t) ≡ stepsTaken k m d t ++ laterSteps k m d t u
   steps-begin = traced-more (k .given) m (k .ceilings) (startOf (k .given) m (k .ceilings) (startFrom k m d)) t u
+
+-- ---- each step is the finder's, under the ceilings of the places, with shrinking on or off
+
+found-at : (p : Problem) (b : List Float) (s : State) (i j : ℕ) → pairAt p b floor s i j ≡ foundAt p b s i j
+unfolding pairAt foundPair
+found-at p b s i j = refl
+
+module _ {k : Fit} {m : List ℕ} {budget : ℕ} {d : Lent} {o : Whole} (v : Served k m budget d o) where
+  pub served-found : k .given .floor ≡ floor → (q : ℕ) → q < length (stepsTaken k m d budget) → FoundStep k m d budget q
+  served-found plain q h =
+      let g = k .given in
+      let x = getD (stepsTaken k m d budget) q noStep in
+      let s = lookAt g m (countedDown g m (after k m d q)) .state in
+      let e = each-step g m (k .ceilings) _ budget q noStep h in
+      let w = runs-owned g m (k .ceilings) q (startFrom k m d) (ready-start v) in
+      let l = step-left g m (k .ceilings) (after k m d q) (x .i) (x .j) (w .active) (w .kept .ready .floats) (e .pair) in
+      let z = ap (λ (f : Float). pairAt (problemOf g m) (k .ceilings) f s (x .i) (x .j)) plain ∙ found-at (problemOf g m) (k .ceilings) s (x .i) (x .j) in
+      (ap (λ (y : Step). y .leftI) (e .is) ∙ l .pair-i ∙ ap (λ (q : Update.Pair). q .i .value) z,
+      ap (λ (y : Step). y .leftJ) (e .is) ∙ l .pair-j ∙ ap (λ (q : Update.Pair). q .j .value) z)
 
 -- ---- with shrinking off
 
@@ -185,15 +205,41 @@ module _ {k : Fit} {m : List ℕ} {budget : ℕ} {d : Lent} {o : Whole} (v : Ser
       (home-own v x e off s h
       ∙ ap (λ (z : Full). weightIn (g .n) (z .state .floats) s) (closed-off g m budget (after k m d budget) (still budget .active)))
 
+  served-begins : (s : ℕ) → s < g .n → weightAfter k m d 0 s ≡ getD (k .weights) s nan
+  unfolding runs
+  served-begins s h =
+      same-started p (k .ceilings) (startFrom k m d) .at (2 * g .n + s) (omega arith) (omega arith)
+      ∙ weight-loaded (g .n) (k .ceilings) (k .weights) (k .terms) (d .floats) (v .room .floats) (g .n) s (omega arith) h
+
   pub served-trail : g .floor ≡ floor → (x : Answer) → o .out ≡ Accepted x → Trailed k m d budget (x .iterations) (o .left .home)
   served-trail plain x e = record {
+    begins = served-begins;
     weights = served-weights x e;
     steps = λ q h. served-shown plain q (rw (served-iterations v x e .0) at h);
     runs-on = run-begins k m d budget;
     steps-on = steps-begin k m d budget;
   }
 
--- ---- each entry
+-- ---- each entry: the finder's steps, and with shrinking off the trail
+
+pub general-found : (n : ℕ) (m l : List ℕ) (c a p : List Float) (nurule : Bool) (eps : Float) (shrinking : Bool) (budget : ℕ) (d : Lent) (x : Answer)
+    → generalOf n m l c a p nurule eps shrinking budget d .out ≡ Accepted x → (q : ℕ) → q < x .iterations → FoundStep (generalFit n l c a p nurule eps shrinking) m d budget q
+general-found n m l c a p nurule eps shrinking budget d x e q h =
+    let v = general-served n m l c a p nurule eps shrinking budget d x e in served-found v refl q (rw (served-iterations v x e .0) at h)
+
+pub c-found : (n : ℕ) (m l : List ℕ) (cpos cneg eps : Float) (shrinking : Bool) (budget : ℕ) (d : Lent) (x : Answer) → fitCOf n m l cpos cneg eps shrinking budget d .out ≡ Accepted x
+    → (q : ℕ) → q < x .iterations → FoundStep (cFit n l cpos cneg eps shrinking) m d budget q
+c-found n m l cpos cneg eps shrinking budget d x e q h =
+    let v = c-served n m l cpos cneg eps shrinking budget d x e in served-found v refl q (rw (served-iterations v x e .0) at h)
+
+pub nu-found : (n : ℕ) (m l : List ℕ) (nu eps : Float) (shrinking : Bool) (budget : ℕ) (d : Lent) (x : Answer) → fitNuOf n m l nu eps shrinking budget d .out ≡ Accepted x
+    → (q : ℕ) → q < x .iterations → FoundStep (nuFit n l nu eps shrinking) m d budget q
+nu-found n m l nu eps shrinking budget d x e q h = let v = nu-served n m l nu eps shrinking budget d x e in served-found v refl q (rw (served-iterations v x e .0) at h)
+
+pub one-class-found : (n : ℕ) (m : List ℕ) (nu eps : Float) (shrinking : Bool) (budget : ℕ) (d : Lent) (x : Answer) → fitOneClassOf n m nu eps shrinking budget d .out ≡ Accepted x
+    → (q : ℕ) → q < x .iterations → FoundStep (oneClassFit n nu eps shrinking) m d budget q
+one-class-found n m nu eps shrinking budget d x e q h =
+    let v = one-class-served n m nu eps shrinking budget d x e in served-found v refl q (rw (served-iterations v x e .0) at h)
 
 pub general-trail : (n : ℕ) (m l : List ℕ) (c a p : List Float) (nurule : Bool) (eps : Float) (budget : ℕ) (d : Lent) (x : Answer) → generalOf n m l c a p nurule eps false budget d .out ≡ Accepted x
     → Trailed (generalFit n l c a p nurule eps false) m d budget (x .iterations) (generalOf n m l c a p nurule eps false budget d .left .home)

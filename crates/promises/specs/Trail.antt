@@ -11,13 +11,20 @@ use Rattle.answer.specs.Lent.{Lent}
 use Rattle.finder.specs.Found.{foundPair}
 use Rattle.kernel.specs.Matrix.{entryAt}
 use Rattle.kernel.specs.Row.{alikeOf, signedOf}
-use Rattle.solver.specs.Pass.{runs}
+use Rattle.solver.specs.Pass.{countedDown, runs}
 use Rattle.solver.specs.Run.{problemOf}
-use Rattle.state.specs.Fields.{gradient, bound}
+use Rattle.state.specs.Fields.{gradient, alpha, diagonal, row, bound}
+use Rattle.state.specs.Lists.{Problem, State}
 use Rattle.extreme.specs.declared.Choice.the-variants.{Pair as Choose}
-use Rattle.trace.specs.Trace.{Step, traced}
+use Rattle.trace.specs.Trace.{Step, lookAt, traced}
 use Rattle.update.specs.declared.Pair.{Pair}
 use Rattle.promises.specs.Fit.{Fit, after, weightAfter, pairAfter, stepsTaken, rOf}
+
+-- what the pair finder says of positions i and j in a state, under the ceilings b of their places
+abbrev pub foundAt : Problem → List Float → State → ℕ → ℕ → Pair
+foundAt p b s i j =
+    foundPair (weight (alpha p s i .value) (bound b i)) (weight (alpha p s j .value) (bound b j)) (gradient p s i) (gradient p s j)
+    (diagonal p s i) (diagonal p s j) (row p s i j) (eqb (getD (s .labels) i 0) (getD (s .labels) j 0))
 
 -- what is read behind the last step
 abbrev pub noStep : Step
@@ -44,7 +51,7 @@ module _ (k : Fit) (m : List ℕ) (d : Lent) where
       foundPair (weight (weightAfter k m d t i) (bound (k .ceilings) i)) (weight (weightAfter k m d t j) (bound (k .ceilings) j))
       (gradientAfter t i) (gradientAfter t j) (entryAt (k .given .n) m i i) (entryAt (k .given .n) m j j) (entryLent i j) (eqb (labelLent i) (labelLent j))
 
-  -- pass t + 1 leaves samples i and j what the finder says, every other weight as it was, and carries the two changes into each gradient
+  -- the pass after t leaves samples i and j what the finder says, every other weight as it was, and carries the two changes into each gradient
   pub record StepsWith (t i j : ℕ) : Type 0 where
     pub below-i : i < k .given .n
     pub below-j : j < k .given .n
@@ -58,14 +65,23 @@ module _ (k : Fit) (m : List ℕ) (d : Lent) where
         (mul binary64 (entryLent i s) (sub binary64 (weightAfter k m d (suc t) i) (weightAfter k m d t i)))
         (mul binary64 (entryLent j s) (sub binary64 (weightAfter k m d (suc t) j) (weightAfter k m d t j))))
 
-  -- the step q of a run with that budget, counted from 0, is that of pass q: of samples i and j, with the weights that it left them
+  -- step q of a run with that budget, counted from 0, is that of the pass after q: of samples i and j, with the weights that it left them
   pub record ShownStep (budget q i j : ℕ) : Type 0 where
     pub chosen : pairAfter k m d q ≡ Choose i j
     pub steps : StepsWith q i j
     pub told : getD (stepsTaken k m d budget) q noStep ≡ record { i = i; j = j; sampleI = i; sampleJ = j; leftI = weightAfter k m d (suc q) i; leftJ = weightAfter k m d (suc q) j }
 
+  -- with shrinking on or off: what step q left is what the finder says in the state in which its pair was chosen, under the ceilings of the places
+  abbrev pub FoundStep : ℕ → ℕ → Type 0
+  FoundStep budget q =
+      let e = getD (stepsTaken k m d budget) q noStep in
+      let s = lookAt (k .given) m (countedDown (k .given) m (after k m d q)) .state in
+      let f = foundAt (problemOf (k .given) m) (k .ceilings) s (e .i) (e .j) in
+      (e .leftI ≡ f .i .value) × (e .leftJ ≡ f .j .value)
+
   -- what a call with that budget tells with shrinking off, by its iterations and its list home
   pub record Trailed (budget iterations : ℕ) (home : List Float) : Type 0 where
+    pub begins : (s : ℕ) → s < k .given .n → weightAfter k m d 0 s ≡ getD (k .weights) s nan
     -- each sample's weight after as many passes, as the entry answers it
     pub weights : (s : ℕ) → s < k .given .n → getD home s nan ≡ coefficientOf (k .how) (labelLent s) (rOf k m d budget) (weightAfter k m d budget s)
     pub steps : (q : ℕ) → q < iterations → ShownStep budget q (getD (stepsTaken k m d budget) q noStep .i) (getD (stepsTaken k m d budget) q noStep .j)
