@@ -51,9 +51,16 @@
 
 mod call;
 mod functions;
+mod pair;
 mod refusal;
+mod replay;
+mod trail;
+mod training;
 
+pub use pair::{find_pair, Before};
 pub use refusal::Refusal;
+pub use trail::{trail, NoTrail, Step, Trail};
+pub use training::Training;
 
 /// The most samples that a problem may have.
 pub const MOST_SAMPLES: usize = 512;
