@@ -66,6 +66,16 @@ impl Step {
     pub fn taken(&self) -> f64 {
         self.left - self.before.weight
     }
+
+    /// Whether the weight was left elsewhere than the step would have brought it.
+    pub fn clipped(&self) -> bool {
+        !same(self.before.weight + self.asked(), self.left)
+    }
+}
+
+/// To the bit; a NaN is a NaN.
+fn same(x: f64, y: f64) -> bool {
+    x.to_bits() == y.to_bits() || x.is_nan() && y.is_nan()
 }
 
 /// Why there is no trail.
@@ -285,9 +295,7 @@ impl<'a> Follower<'a> {
         Ok(())
     }
 
-    /// To the bit; a NaN is a NaN.
     fn alike(&self, own: &[f64], theirs: &[f64]) -> Result<(), NoTrail> {
-        let same = |x: f64, y: f64| x.to_bits() == y.to_bits() || x.is_nan() && y.is_nan();
         let parted = (0..own.len()).find(|k| !same(own[*k], theirs[*k]));
         parted.map_or(Ok(()), |k| Err(self.differs(Some(k))))
     }

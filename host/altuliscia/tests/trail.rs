@@ -379,7 +379,50 @@ fn the_first_step_is_the_rules() {
     };
     assert_eq!(told.steps, [step]);
     assert_eq!((step.asked(), step.taken()), (1.0, 1.0));
+    assert!(!step.clipped());
     assert_eq!((told.calls, told.ceiling), (2, 10.0));
+}
+
+/// The curvature of two like samples is 0, and the floor stands for it.
+#[test]
+fn a_flat_step_is_clipped() {
+    let training = Training::C {
+        problem: Problem {
+            matrix: &[1.0; 4],
+            labels: &[true, false],
+        },
+        cpos: 10.0,
+        cneg: 10.0,
+    };
+    let told = trail(&training, 1, &Options::default()).unwrap();
+    let step = told.steps[0];
+    assert_eq!((step.delta, step.asked()), (2.0 / 1e-10, 2.0 / 1e-10));
+    assert_eq!((step.left, step.taken()), (10.0, 10.0));
+    assert!(step.clipped());
+}
+
+/// docs/DIFFERENCES.md has weights above their ceiling where ceilings differ.
+#[test]
+fn a_weight_may_be_above_its_ceiling() {
+    let matrix = [3, 2, 0, 1, 2, 2, 2, 1, 0, 2, 2, 2, 1, 1, 2, 1].map(f64::from);
+    let general = General {
+        problem: Problem {
+            matrix: &matrix,
+            labels: &[false, true, true, true],
+        },
+        ceilings: &[2.0, 1.0, 1.0, 1.0],
+        alphas: &[2.0, 0.0, 1.0, 0.0],
+        linear: &[-2.0, 0.0, -2.0, 0.0],
+        nu_rule: false,
+    };
+    let options = Options {
+        eps: 0.0,
+        ..off(100)
+    };
+    let mut counts = Counts::default();
+    let all = trails(&Training::General(general), &options, &mut counts);
+    let above: Vec<usize> = (0..4).filter(|s| all[*s].end > all[*s].ceiling).collect();
+    assert_eq!(above, [1]);
 }
 
 /// Where the labels agree, what the first loses the second gains.
