@@ -55,7 +55,8 @@ extern "C" {
 #define ALTULISCIA_MOST_SAMPLES 512
 #define ALTULISCIA_MOST_PASSES 10000000
 
-/* A weight counts as support where its magnitude is above this: 100*2^-52, exactly. */
+/* A weight counts as support where its magnitude is above this: 100*2^-52, exactly. A list that is made for as many weights as the count says
+ * holds these and no others; a decision needs every weight that isn't 0. */
 #define ALTULISCIA_SUPPORT_LIMIT 2.220446049250313e-14
 
 /* What a call needs of the stack at the most, in bytes; and one of an altuliscia_train_.. function, which has room of its own. */

@@ -50,6 +50,7 @@ __version__ = "1.2.0"
 
 MOST_SAMPLES = 512
 MOST_PASSES = 10_000_000
+SUPPORT_LIMIT = 100 * 2.0 ** -52  # a weight counts as support where its magnitude is above this
 
 _ANSWER = struct.Struct("<QQdQddQQQ")
 _PAIR = struct.Struct("<dd")

@@ -70,7 +70,8 @@ class Worked(unittest.TestCase):
         self.assertEqual((fit.support_, fit.dual_coef_, fit.n_iter_), ([], [[]], [0]))
 
     def test_support(self):
-        limit = 100 * 2.0 ** -52
+        limit = altuliscia.SUPPORT_LIMIT
+        self.assertEqual(limit, 2.220446049250313e-14)
         # Both weights rise to their ceiling. The second is the next double above the limit.
         for cost, count in ((limit, 0), (2.2204460492503134e-14, 2), (1e-15, 0), (5e-324, 0), (1.0, 2)):
             fit = fit_c(IDENTITY, [1, 0], cost, cost)
