@@ -301,7 +301,7 @@ class Recorded(unittest.TestCase):
         steps = 0
         for options, text in self.calls():
             trail = self.told(options)
-            found = re.search(r"^weight (\S+)\n\nIt starts at (\S+) and may be (\S+) at the most; (\w+) of the (\d+) steps", text, re.MULTILINE)
+            found = re.search(r"^weight (\S+)\n\nIt starts at (\S+), its ceiling is (\S+); (\w+) of the (\d+) steps", text, re.MULTILINE)
             self.assertEqual(self.numbers(found.group(1, 2, 3)), bits([trail.home, trail.start, trail.ceiling]))
             self.assertEqual(found.group(4, 5), (str(len(trail.steps) or "none"), str(trail.fit.n_iter_[0])))
             calls = re.search(r"^Checked with (\d+) calls? of the library", text, re.MULTILINE)

@@ -100,7 +100,7 @@ fn started(t: &Trail) -> String {
         (some, _) => format!("{} of the {} steps chose it:", some, all),
     };
     format!(
-        "It starts at {} and may be {} at the most; {}",
+        "It starts at {}, its ceiling is {}; {}",
         double(t.start),
         double(t.ceiling),
         chose

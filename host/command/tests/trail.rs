@@ -199,7 +199,7 @@ fn a_sample_is_named_by_its_serial_number() {
     let (head, rest) = found.split_once("\n\n").unwrap();
     assert_eq!(head, "serial 1, sample 1, label 3\nweight -1.0");
     assert!(
-        rest.starts_with("It starts at 0.0 and may be 1.0 at the most; the only step chose it:\n")
+        rest.starts_with("It starts at 0.0, its ceiling is 1.0; the only step chose it:\n")
     );
     let row = "\n     1        2      7  j   1.0               1.0\n";
     assert!(found.contains(row), "{}", found);
