@@ -35,7 +35,7 @@ class Trail(namedtuple("Trail", "sample retired ceiling start steps end home fit
 
     sample    the sample, counted from 0
     retired   whether it is retired: then it starts at 0 and no step chooses it
-    ceiling   the most that its weight may be
+    ceiling   its ceiling; with ceilings that differ a weight may end above it
     start     its weight before the first pass
     steps     the steps that chose it, in their order
     end       its weight after the last pass, before it is signed and divided
