@@ -198,9 +198,7 @@ fn a_sample_is_named_by_its_serial_number() {
     let found = told("trail --sample 1 FILE", &path, "").unwrap();
     let (head, rest) = found.split_once("\n\n").unwrap();
     assert_eq!(head, "serial 1, sample 1, label 3\nweight -1.0");
-    assert!(
-        rest.starts_with("It starts at 0.0, its ceiling is 1.0; the only step chose it:\n")
-    );
+    assert!(rest.starts_with("It starts at 0.0, its ceiling is 1.0; the only step chose it:\n"));
     let row = "\n     1        2      7  j   1.0               1.0\n";
     assert!(found.contains(row), "{}", found);
     assert!(found.ends_with(
