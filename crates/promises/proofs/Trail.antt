@@ -70,9 +70,10 @@ module _ {k : Fit} {m : List ℕ} {budget : ℕ} {d : Lent} {o : Whole} (v : Ser
       let e = each-step g m (k .ceilings) _ budget q noStep h in
       let w = runs-owned g m (k .ceilings) q (startFrom k m d) (ready-start v) in
       let l = step-left g m (k .ceilings) (after k m d q) (x .i) (x .j) (w .active) (w .kept .ready .floats) (e .pair) in
-      let z = ap (λ (f : Float). pairAt (problemOf g m) (k .ceilings) f s (x .i) (x .j)) plain ∙ found-at (problemOf g m) (k .ceilings) s (x .i) (x .j) in
-      (ap (λ (y : Step). y .leftI) (e .is) ∙ l .pair-i ∙ ap (λ (q : Update.Pair). q .i .value) z,
-      ap (λ (y : Step). y .leftJ) (e .is) ∙ l .pair-j ∙ ap (λ (q : Update.Pair). q .j .value) z)
+      let z = ap (λ (f : Float). pairAt (problemOf g m) (k .ceilings) f s (x .i) (x .j)) plain ∙ found-at (problemOf g m) (k .ceilings) s (x .i) (x .j) in (
+        ap (λ (y : Step). y .leftI) (e .is) ∙ l .pair-i ∙ ap (λ (q : Update.Pair). q .i .value) z,
+        ap (λ (y : Step). y .leftJ) (e .is) ∙ l .pair-j ∙ ap (λ (q : Update.Pair). q .j .value) z,
+      )
 
 -- ---- with shrinking off
 
