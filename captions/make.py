@@ -3,6 +3,9 @@
 
     captions/make.py all [FOLDER]   every pair of languages, 512 training captions each, into FOLDER (target/captions)
     captions/make.py ship [FOLDER]  the two pairs that ship with the repository, 64 training captions each, into FOLDER (captions)
+    captions/make.py texts FIRST SECOND N
+                                    prints the first N training captions of two languages themselves, a line each, in the order of
+                                    the figures
     captions/make.py version        prints the package's version
 
 captions/README.md says what a caption, a selection and a figure is. Needs Python 3 and `apt-get install python3-django`, and
@@ -64,9 +67,9 @@ def usable(caption):
     return any(c.isalpha() for c in caption) and not any(c in "%{<\n" for c in caption)
 
 
-def selected(first, second):
-    """The pairs of captions of two languages, in the order of their msgids' SHA-256."""
-    seen, pairs = set(), []
+def chosen(first, second):
+    """The msgids whose captions are taken of two languages, in the order of their SHA-256."""
+    seen, msgids = set(), []
     for msgid in sorted(set(first) & set(second), key=lambda m: hashlib.sha256(m.encode("utf-8")).digest()):
         if not (usable(first[msgid]) and usable(second[msgid])):
             continue
@@ -74,8 +77,19 @@ def selected(first, second):
         if a == b or a in seen or b in seen:
             continue
         seen.update((a, b))
-        pairs.append((a, b))
-    return pairs
+        msgids.append(msgid)
+    return msgids
+
+
+def selected(first, second):
+    """The pairs of captions of two languages, in that order."""
+    return [(plain(first[msgid]), plain(second[msgid])) for msgid in chosen(first, second)]
+
+
+def texts(first, second, training):
+    """The training captions themselves, each in one line, as the figures have them: of each msgid first that of the first language."""
+    captions = [language[msgid] for msgid in chosen(first, second)[:TRAINING_MSGIDS] for language in (first, second)]
+    return [" ".join(caption.split()) for caption in captions[:training]]
 
 
 def grams(text):
@@ -143,21 +157,25 @@ def make(pairs, training, folder, command):
     os.makedirs(folder, exist_ok=True)
     catalogues = {language: catalogue(language) for language in LANGUAGES}
     for a, b in pairs:
-        chosen = selected(catalogues[a], catalogues[b])
-        if len(chosen) <= TRAINING_MSGIDS:
-            raise SystemExit(f"{a}/{b}: {len(chosen)} captions are not enough")
+        taken = selected(catalogues[a], catalogues[b])
+        if len(taken) <= TRAINING_MSGIDS:
+            raise SystemExit(f"{a}/{b}: {len(taken)} captions are not enough")
         head = [
             f"# Products of captions, from Debian's {PACKAGE} {version} (BSD-3-Clause), made by: {command}",
             "# What stands where: captions/README.md",
             f"package {PACKAGE} {version}",
             f"languages {a} {b}",
         ]
-        write(os.path.join(folder, f"{a}-{b}.txt"), figures(chosen, training, head))
+        write(os.path.join(folder, f"{a}-{b}.txt"), figures(taken, training, head))
 
 
 def main(words):
     if words == ["version"]:
         print(installed())
+    elif words[:1] == ["texts"] and len(words) == 4 and set(words[1:3]) <= set(LANGUAGES) and words[3].isdigit():
+        installed()
+        for caption in texts(catalogue(words[1]), catalogue(words[2]), int(words[3])):
+            sys.stdout.buffer.write(caption.encode("utf-8") + b"\n")
     elif words[:1] == ["all"] and len(words) <= 2:
         folder = words[1] if len(words) == 2 else os.path.join(HERE, "..", "target", "captions")
         make(list(itertools.combinations(LANGUAGES, 2)), 2 * TRAINING_MSGIDS, folder, "captions/make.py all")

@@ -1,8 +1,10 @@
 """Tests of make.py on captions made up here; the package isn't needed."""
+import io
 import os
 import struct
 import tempfile
 import unittest
+from unittest import mock
 
 import make
 
@@ -50,6 +52,40 @@ class Selection(unittest.TestCase):
         second = {"a": "Áno", "b": "Nie", "c": "Start", "d": "Hej", "f": "Nic"}
         # SHA-256 puts b (3e23..) before a (ca97..), and d (18ac..) before both. d's caption is a's, so a goes.
         self.assertEqual(make.selected(first, second), [(" ano ", " hej "), (" ne ", " nie ")])
+
+
+class Texts(unittest.TestCase):
+    FIRST = {"a": "Přidat\xa0 další", "b": "Ne\u2028", "c": "Start"}
+    SECOND = {"a": "Pridať ďalší", "b": "Nie", "c": "Start"}
+
+    def test_lines_are_the_captions_in_the_order_of_the_figures(self):
+        lines = ["Ne", "Nie", "Přidat další", "Pridať ďalší"]
+        for count in range(6):
+            self.assertEqual(make.texts(self.FIRST, self.SECOND, count), lines[:count])
+        plain = [text for pair in make.selected(self.FIRST, self.SECOND) for text in pair]
+        self.assertEqual([make.plain(line) for line in lines], plain)
+
+    def test_held_out_captions_are_not_among_them(self):
+        many = {f"m{k}": f"a{k}" for k in range(make.TRAINING_MSGIDS + 5)}
+        others = {msgid: caption.replace("a", "b") for msgid, caption in many.items()}
+        self.assertEqual(len(make.texts(many, others, 10_000)), 2 * make.TRAINING_MSGIDS)
+
+    def test_printed(self):
+        with tempfile.TemporaryDirectory() as folder, mock.patch("make.ROOT", folder), mock.patch("make.installed"):
+            for language, captions in (("cs", self.FIRST), ("sk", self.SECOND)):
+                place = os.path.join(folder, "conf", "locale", language, "LC_MESSAGES")
+                os.makedirs(place)
+                with open(os.path.join(place, "django.mo"), "wb") as file:
+                    file.write(mo(list(captions.items())))
+            with mock.patch("sys.stdout", io.TextIOWrapper(io.BytesIO(), encoding="ascii")) as out:
+                make.main(["texts", "cs", "sk", "3"])
+                self.assertEqual(out.buffer.getvalue().decode("utf-8"), "Ne\nNie\nPřidat další\n")
+
+    def test_wrong_words(self):
+        for words in (["texts"], ["texts", "cs", "sk"], ["texts", "cs", "xx", "4"], ["texts", "cs", "sk", "x"]):
+            with self.assertRaises(SystemExit) as caught:
+                make.main(words)
+            self.assertIn("captions/make.py texts FIRST SECOND N", str(caught.exception))
 
 
 class Figures(unittest.TestCase):

@@ -1,9 +1,9 @@
 /* Altuliscia: a support vector machine trainer (SMO on a precomputed kernel: C, nu, one class), as C functions in libaltuliscia.a, for
  * x86-64 and aarch64.
  *
- * Which to call. altuliscia_train_c and its four fellows take doubles and fill a struct: they are the ones to write by hand. They are
- * inline, over the five functions on bytes (altuliscia_c and so on), which are what the archive has, what is proved, and what other
- * languages call. The inline ones are tested, not proved.
+ * Which to call. altuliscia_train_c and its four fellows take doubles and fill a struct: they are the ones to write by hand, and
+ * altuliscia_find_pair for who replays one step of a run. They are inline, over the six functions on bytes (altuliscia_c and so on),
+ * which are what the archive has, what is proved, and what other languages call. The inline ones are tested, not proved.
  *
  * How to use the answer. home[s] is the weight of sample s (its dual coefficient), K(s, x) the kernel value of sample s and something
  * new: the sum over the samples of home[s] * K(s, x), less rho, is the decision. From 0 on x is positive (under one class: of the
@@ -18,8 +18,8 @@
  * retired, 0 not. Slices may stand at any address, odd ones too. A slice of length 0 may be NULL. What is written (crate_reading,
  * home, answer) may overlap nothing else that is lent.
  *
- * Numbers. To the functions on bytes eps, cpos, cneg and nu travel as the uint64_t with the same eight bytes, which altuliscia_bits
- * gives. A float or double handed over in such a place doesn't compile (see 'guards' below). A flag is on when it isn't 0.
+ * Numbers. To the functions on bytes eps, cpos, cneg, nu and the nine of altuliscia_pair travel as the uint64_t with the same eight
+ * bytes, which altuliscia_bits gives. A float or double handed over in such a place doesn't compile (see 'guards' below). A flag is on when it isn't 0.
  *
  * Results. Where the run is accepted the result is 0: the first 8n bytes of crate_reading and of home hold n doubles each and
  * `answer` holds the answer. Else the result is a refusal's number: `answer` holds it with its index, and both lists stay as they
@@ -48,7 +48,7 @@ extern "C" {
 
 /* The version of this header; altuliscia_version tells the library's. docs/STABLE.md has what stays as it is. */
 #define ALTULISCIA_VERSION_MAJOR 1
-#define ALTULISCIA_VERSION_MINOR 1
+#define ALTULISCIA_VERSION_MINOR 2
 #define ALTULISCIA_VERSION_PATCH 0
 
 /* The most samples and the largest budget that are accepted. */
@@ -74,6 +74,9 @@ extern "C" {
 #define ALTULISCIA_AT_ITERATIONS 48 /* how many steps were taken */
 #define ALTULISCIA_AT_REASON 56     /* one of enum altuliscia_reason */
 #define ALTULISCIA_AT_SUPPORT 64    /* how many places of home are above ALTULISCIA_SUPPORT_LIMIT in magnitude; no NaN, no zero is */
+
+/* What altuliscia_pair writes: two doubles. */
+#define ALTULISCIA_PAIR_BYTES 16
 
 /* Why an accepted run ended. */
 enum altuliscia_reason {
@@ -159,6 +162,15 @@ uint64_t altuliscia_nu(size_t n, const uint8_t *matrix, size_t matrix_len, const
 uint64_t altuliscia_one_class(size_t n, const uint8_t *matrix, size_t matrix_len, uint64_t nu, uint64_t eps, uint8_t shrinking,
                               uint64_t budget, uint8_t *crate_reading, size_t crate_reading_len, uint8_t *home, size_t home_len,
                               uint8_t *answer, size_t answer_len);
+
+/* What one step of a run leaves of two weights, those of samples i and j: for who replays the steps that a weight went through. A
+ * sample has a weight, its ceiling, its gradient and its diagonal (the kernel value of itself). `entry` is the kernel value of column i,
+ * row j where the labels of i and j agree, which `agree` says, and its negative where they don't. Written to `pair`, in its first 16
+ * bytes: the double that is left of weight i, then that of weight j. The result is 0; where `pair` is shorter than 16 bytes it is 2 and
+ * nothing is written. No number is refused: NaN and infinities go through the step's comparisons as any other. */
+uint64_t altuliscia_pair(uint64_t weight_i, uint64_t ceiling_i, uint64_t weight_j, uint64_t ceiling_j, uint64_t gradient_i,
+                         uint64_t gradient_j, uint64_t diagonal_i, uint64_t diagonal_j, uint64_t entry, uint8_t agree, uint8_t *pair,
+                         size_t pair_len);
 
 /* The version of the library that is linked: 10000*major + 100*minor + patch. */
 uint64_t altuliscia_version(void);
@@ -257,6 +269,25 @@ static inline uint64_t altuliscia_train_retired(size_t n, const double *matrix, 
                               ALTULISCIA_WRITTEN(home, n), ALTULISCIA_WRITTEN(result, 9u));
 }
 
+/* The weights of i and j after a step. */
+typedef struct altuliscia_left {
+    double i;
+    double j;
+} altuliscia_left;
+typedef char altuliscia_left_has_16_bytes[sizeof(altuliscia_left) == ALTULISCIA_PAIR_BYTES ? 1 : -1];
+
+/* altuliscia_pair with doubles. */
+static inline altuliscia_left altuliscia_find_pair(double weight_i, double ceiling_i, double weight_j, double ceiling_j,
+                                                   double gradient_i, double gradient_j, double diagonal_i, double diagonal_j,
+                                                   double entry, int agree) {
+    altuliscia_left left;
+    altuliscia_pair(altuliscia_bits(weight_i), altuliscia_bits(ceiling_i), altuliscia_bits(weight_j), altuliscia_bits(ceiling_j),
+                    altuliscia_bits(gradient_i), altuliscia_bits(gradient_j), altuliscia_bits(diagonal_i),
+                    altuliscia_bits(diagonal_j), altuliscia_bits(entry), agree != 0, ALTULISCIA_CAST(uint8_t *, &left),
+                    ALTULISCIA_PAIR_BYTES);
+    return left;
+}
+
 /* Whether an answer is to be used: accepted, ended by the threshold, rho finite, and under the nu rule r finite and not 0. */
 static inline int altuliscia_usable(const altuliscia_result *result) {
     return result->refusal == ALTULISCIA_ACCEPTED && result->reason == ALTULISCIA_THRESHOLD && result->rho - result->rho == 0 &&
@@ -318,6 +349,7 @@ static inline double altuliscia_decide_by_label(size_t n, const double *home, co
 #define altuliscia_c(...) ALTULISCIA_GUARDED_C(__VA_ARGS__)
 #define altuliscia_nu(...) ALTULISCIA_GUARDED_NU(__VA_ARGS__)
 #define altuliscia_one_class(...) ALTULISCIA_GUARDED_ONE_CLASS(__VA_ARGS__)
+#define altuliscia_pair(...) ALTULISCIA_GUARDED_PAIR(__VA_ARGS__)
 #define ALTULISCIA_GUARDED_GENERAL(n, m, m_len, l, l_len, c, c_len, a, a_len, p, p_len, nu_rule, eps, ...) \
     altuliscia_general(n, m, m_len, l, l_len, c, c_len, a, a_len, p, p_len, nu_rule, ALTULISCIA_BITS_WANTED(eps), __VA_ARGS__)
 #define ALTULISCIA_GUARDED_RETIRED(n, m, m_len, l, l_len, c, c_len, a, a_len, p, p_len, r, r_len, nu_rule, eps, ...) \
@@ -330,6 +362,10 @@ static inline double altuliscia_decide_by_label(size_t n, const double *home, co
     altuliscia_nu(n, m, m_len, l, l_len, ALTULISCIA_BITS_WANTED(nu), ALTULISCIA_BITS_WANTED(eps), __VA_ARGS__)
 #define ALTULISCIA_GUARDED_ONE_CLASS(n, m, m_len, nu, eps, ...) \
     altuliscia_one_class(n, m, m_len, ALTULISCIA_BITS_WANTED(nu), ALTULISCIA_BITS_WANTED(eps), __VA_ARGS__)
+#define ALTULISCIA_GUARDED_PAIR(ai, bi, aj, bj, gi, gj, di, dj, entry, ...) \
+    altuliscia_pair(ALTULISCIA_BITS_WANTED(ai), ALTULISCIA_BITS_WANTED(bi), ALTULISCIA_BITS_WANTED(aj), \
+                    ALTULISCIA_BITS_WANTED(bj), ALTULISCIA_BITS_WANTED(gi), ALTULISCIA_BITS_WANTED(gj), \
+                    ALTULISCIA_BITS_WANTED(di), ALTULISCIA_BITS_WANTED(dj), ALTULISCIA_BITS_WANTED(entry), __VA_ARGS__)
 #endif
 #undef ALTULISCIA_GUARDS
 

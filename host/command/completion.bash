@@ -3,15 +3,18 @@ _altuliscia() {
     local word=${COMP_WORDS[COMP_CWORD]} before=${COMP_WORDS[COMP_CWORD - 1]} offered=
     COMPREPLY=()
     if [ "$COMP_CWORD" = 1 ]; then
-        offered='train weights check --help --version'
+        offered='train weights check trail --help --version'
     else
         case $before in
             -s) offered='0 1 2' ;;
             -t) offered=4 ;;
             -h) offered='0 1' ;;
-            -c | -n | -e | -w* | --budget) return ;;
-            --retired) ;;
-            *) [[ $word != -* ]] || offered='-s -c -w1 -w-1 -n -e -h --budget --retired -t -q --help' ;;
+            -c | -n | -e | -w* | --budget | --sample) return ;;
+            --retired | --captions) ;;
+            *)
+                [[ $word != -* ]] || offered='-s -c -w1 -w-1 -n -e -h --budget --retired -t -q --help'
+                [ -z "$offered" ] || [ "${COMP_WORDS[1]}" != trail ] || offered="--sample --captions $offered"
+                ;;
         esac
     fi
     if [ -n "$offered" ]; then

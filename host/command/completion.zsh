@@ -1,14 +1,21 @@
 #compdef altuliscia
 # Completion of `altuliscia` for zsh.
 if (( CURRENT == 2 )); then
-    compadd -- train weights check --help --version
+    compadd -- train weights check trail --help --version
     return
 fi
 case $words[CURRENT-1] in
     -s) compadd 0 1 2 ;;
     -t) compadd 4 ;;
     -h) compadd 0 1 ;;
-    -c|-n|-e|-w*|--budget) ;;
-    --retired) _files ;;
-    *) if [[ $words[CURRENT] == -* ]]; then compadd -- -s -c -w1 -w-1 -n -e -h --budget --retired -t -q --help; else _files; fi ;;
+    -c|-n|-e|-w*|--budget|--sample) ;;
+    --retired|--captions) _files ;;
+    *)
+        if [[ $words[CURRENT] != -* ]]; then
+            _files
+        else
+            compadd -- -s -c -w1 -w-1 -n -e -h --budget --retired -t -q --help
+            if [[ $words[2] == trail ]]; then compadd -- --sample --captions; fi
+        fi
+        ;;
 esac

@@ -1,5 +1,6 @@
-/* Makes each drawn call twice, by altuliscia_train_X and by altuliscia_X, and compares what is returned and every byte that is written.
- * Then what only the former can be handed. C99 and C++98. The exit status is 1 where anything differs. */
+/* Makes each drawn call twice, by altuliscia_train_X and by altuliscia_X, and compares what is returned and every byte that is written;
+ * so with drawn steps, by altuliscia_find_pair and altuliscia_pair. Then what only the former can be handed. C99 and C++98. The exit
+ * status is 1 where anything differs. */
 #include "altuliscia.h"
 
 #include <stdio.h>
@@ -108,6 +109,34 @@ static int drawn(void) {
     return !(accepted > RUNS / 2 && accepted < RUNS);
 }
 
+/* Steps of which each number is drawn from what a run may meet and from what it never does. */
+static int steps(void) {
+    const double none = matrix[0] - matrix[0], huge = 1e300;
+    const double list[] = {0, -none, 0.25, 1, 3, -1, -2.5, 1e-10, 5e-324, huge, huge * huge, -huge * huge, none / none};
+    int moved = 0;
+    for (int k = 0; k < RUNS; k++) {
+        double x[9];
+        uint64_t b[9], left[3], filled[3];
+        int agree = (int)below(3) * 128; /* 256 doesn't fit a byte, and is on */
+        for (size_t i = 0; i < 9; i++) {
+            x[i] = list[below(sizeof list / sizeof *list)];
+            b[i] = altuliscia_bits(x[i]);
+        }
+        memset(filled, 0xa5, sizeof filled);
+        memcpy(left, filled, sizeof left);
+        altuliscia_left found = altuliscia_find_pair(x[0], x[1], x[2], x[3], x[4], x[5], x[6], x[7], x[8], agree);
+        uint64_t result = altuliscia_pair(b[0], b[1], b[2], b[3], b[4], b[5], b[6], b[7], b[8], agree != 0, (uint8_t *)left, 16);
+        uint64_t shorter = altuliscia_pair(b[0], b[1], b[2], b[3], b[4], b[5], b[6], b[7], b[8], agree != 0, (uint8_t *)filled, 15);
+        if (result != 0 || shorter != 2 || memcmp(&found, left, 16) != 0 || left[2] != filled[0] || memcmp(filled, filled + 1, 16) != 0) {
+            printf("step %d differs\n", k);
+            return 1;
+        }
+        moved += found.i != x[0] && found.j != x[2];
+    }
+    printf("%d steps alike, %s\n", RUNS, moved > RUNS / 4 ? "many that move both" : "too few that move both");
+    return moved <= RUNS / 4;
+}
+
 static int failed;
 
 static void expect(const char *what, int holds) {
@@ -152,11 +181,22 @@ static void odd(void) {
     expect("a NaN isn't", home[0] != home[0] && result.refusal == 0 && result.support == 0);
     expect("a NaN beside 0", altuliscia_decide(2, weights, 0.25, nan_row) == 0.75);
     expect("a NaN beside a weight", altuliscia_decide(2, both, 0.25, nan_row) != altuliscia_decide(2, both, 0.25, nan_row));
+    altuliscia_left left = altuliscia_find_pair(0, 1, 0, 1, -1, -1, 1, 1, -0.0, 0);
+    expect("a step of two samples that differ", left.i == 1 && left.j == 1);
+    left = altuliscia_find_pair(0, 0.75, 0, 1, -1, -1, 1, 1, -0.0, 0);
+    expect("clipped by the first's ceiling", left.i == 0.75 && left.j == 0.75);
+    left = altuliscia_find_pair(0.5, 1, 0.25, 1, 1, 0, 1, 1, 0, 1);
+    expect("what agrees exchanges", left.i == 0 && left.j == 0.75);
+    left = altuliscia_find_pair(0, 1, 0, 1, -1, -1, 0, 0, 0, 0);
+    expect("a flat pair is floored", left.i == 1 && left.j == 1);
+    left = altuliscia_find_pair(0.25, 1, 0.5, 1, nan_row[1], 0, 1, 1, 0, 1);
+    expect("a NaN gradient", left.i != left.i && left.j != left.j);
     expect("signed by label", altuliscia_decide_by_label(2, both, y, 0.125, row) == 0.125);
 }
 
 int main(void) {
     int differ = drawn();
+    differ |= steps();
     odd();
     return differ || failed;
 }

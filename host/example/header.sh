@@ -11,7 +11,7 @@ cd "$(dirname "$0")/../.."
 made=$(mktemp -d)
 trap 'rm -rf "$made"' EXIT
 strict='-Wall -Wextra -Werror -pedantic -Wconversion -Wshadow -Iinclude'
-bits=$(echo -DB{1..9}=w)
+bits=$(echo -DB{1..18}=w)
 lists=$(echo -DL{1..5}=d)
 tried=0
 
@@ -42,7 +42,7 @@ compiled() {
     [ "$2" != c89 ] || return 0
     must $compile/example.c
     must $compile/wrong.c $bits $lists
-    for place in B{1..9}; do
+    for place in B{1..18}; do
         for wrong in x f; do must_not 'invalid operands' $compile/wrong.c ${bits/$place=w/$place=$wrong} $lists; done
     done
     must $compile/wrong.c ${bits/B3=w/B3=x} $lists -DALTULISCIA_UNGUARDED -Wno-conversion -Wno-float-conversion

@@ -8,7 +8,7 @@
 #include <stdlib.h>
 #include <string.h>
 
-enum { MOST = 512, ROOM = 1 << 20, PAINT = 0xa5, RUNS = 400, ON_BYTES = 5, FUNCTIONS = 10 };
+enum { MOST = 512, ROOM = 1 << 20, PAINT = 0xa5, RUNS = 400, ON_BYTES = 6, FUNCTIONS = 12 };
 
 static double matrix[MOST * MOST], ceilings[MOST], alphas[MOST], linear[MOST], crate_reading[MOST], home[MOST];
 static uint8_t labels[MOST], retired[MOST], answer[ALTULISCIA_ANSWER_BYTES];
@@ -62,10 +62,14 @@ static uint64_t call(int which, size_t n, uint8_t shrinking) {
         return altuliscia_nu(n, m, square, labels, n, bits(0.4), eps, shrinking, budget, c, list, h, list, answer, sizeof answer);
     case 3:
         return altuliscia_one_class(n, m, square, bits(0.4), eps, shrinking, budget, c, list, h, list, answer, sizeof answer);
-    default:
+    case 4:
         return altuliscia_retired(n, m, square, labels, n, (const uint8_t *)ceilings, list, (const uint8_t *)alphas, list,
                                   (const uint8_t *)linear, list, retired, n, (uint8_t)below(2), eps, 0, budget, NULL, 0, c, list, h,
                                   list, answer, sizeof answer);
+    default:
+        return altuliscia_pair(bits(alphas[0]), bits(ceilings[0]), bits(alphas[1]), bits(ceilings[1]), bits(linear[0]),
+                               bits(linear[1]), bits(matrix[0]), bits(matrix[n + 1]), bits(matrix[1]), shrinking, answer,
+                               sizeof answer);
     }
 }
 
@@ -84,9 +88,14 @@ static uint64_t call_train(int which, size_t n, uint8_t shrinking) {
         return altuliscia_train_nu(n, matrix, labels, 0.4, 0.001, shrinking, budget, NULL, home, &result);
     case 3:
         return altuliscia_train_one_class(n, matrix, 0.4, 0.001, shrinking, budget, NULL, home, &result);
-    default:
+    case 4:
         return altuliscia_train_retired(n, matrix, labels, ceilings, alphas, linear, retired, rule, 0.001, budget, NULL, home,
                                         &result);
+    default: {
+        altuliscia_left left = altuliscia_find_pair(alphas[0], ceilings[0], alphas[1], ceilings[1], linear[0], linear[1], matrix[0],
+                                                    matrix[n + 1], matrix[1], shrinking);
+        return left.i == left.i && left.j == left.j ? ALTULISCIA_ACCEPTED : ALTULISCIA_BAD_LENGTH;
+    }
     }
 }
 
@@ -107,8 +116,8 @@ static void *work(void *given) {
 }
 
 int main(void) {
-    static const char *names[FUNCTIONS] = {"general",       "c",       "nu",       "one_class",       "retired",
-                                           "train_general", "train_c", "train_nu", "train_one_class", "train_retired"};
+    static const char *names[FUNCTIONS] = {"general",       "c",       "nu",       "one_class",       "retired",       "pair",
+                                           "train_general", "train_c", "train_nu", "train_one_class", "train_retired", "find_pair"};
     int over = 0;
     for (int which = 0; which < FUNCTIONS; which++) {
         void *stack;

@@ -1,4 +1,4 @@
-"""A support vector machine trainer that is proved to meet its contract, for Python: the five functions of include/altuliscia.h.
+"""A support vector machine trainer that is proved to meet its contract, for Python: the functions of include/altuliscia.h.
 
 `pip install ./host/python` at the root of the repository installs it with the library inside. Without an install this file needs the
 library as a shared object, which is made of the shipped archive, at the root of the repository, by
@@ -34,6 +34,8 @@ A kernel matrix is a list of n columns of n numbers each, or an object that hold
 double (array.array("d"), bytes, a float64 array of numpy, whose rows are taken as columns). It need not be symmetric. Labels are
 1 (positive) and 0 (negative). What is refused is told by a Refusal, which is a ValueError; what is no number at all, by a TypeError.
 Retired numbers that can't be right are told by a TypeError or a plain ValueError, before anything is refused.
+
+Where a weight came from: altuliscia_trail has the steps that a sample went through, and find_pair is one step by itself.
 """
 import ctypes
 import numbers
@@ -41,15 +43,17 @@ import operator
 import os
 import struct
 from array import array
+from collections import namedtuple
 from itertools import compress
 
-__version__ = "1.1.0"
+__version__ = "1.2.0"
 
 MOST_SAMPLES = 512
 MOST_PASSES = 10_000_000
 SUPPORT_LIMIT = 100 * 2.0 ** -52  # a weight counts as support where its magnitude is above this
 
 _ANSWER = struct.Struct("<QQdQddQQQ")
+_PAIR = struct.Struct("<dd")
 
 # The words of include/altuliscia.h.
 _SENTENCES = {
@@ -190,6 +194,33 @@ def fit_general(matrix, labels, ceilings, alphas, linear, *, nu_rule=False, eps=
     if not gone:
         return Fit(*_called("altuliscia_general", n, lent, (_flag(nu_rule),), eps, shrinking, budget))
     return Fit(*_without(gone, n, lent, nu_rule, eps, shrinking, budget), sorted(gone))
+
+
+Before = namedtuple("Before", "weight ceiling gradient diagonal")
+Before.__doc__ = """What a step finds of one of its two samples: its weight, without sign and not divided, the most that it may be, its
+gradient, and the kernel value of the sample with itself."""
+
+
+def find_pair(i, j, entry, agree):
+    """What a step leaves of the weights of its two samples, as a pair: the library's own step (docs/RULE.md, 'Update').
+
+    i, j    a Before, or four numbers in its order
+    entry   the kernel value of column i, row j where the labels agree, its negative where they don't
+    agree   whether the labels agree
+
+    Nothing is refused: NaN and infinities go through the same comparisons as any other number.
+
+    >>> sample = Before(weight=0.0, ceiling=1.0, gradient=-1.0, diagonal=1.0)
+    >>> find_pair(sample, sample._replace(ceiling=0.25), -0.5, False)
+    (0.25, 0.25)
+    """
+    (weight_i, ceiling_i, gradient_i, diagonal_i), (weight_j, ceiling_j, gradient_j, diagonal_j) = i, j
+    given = (weight_i, ceiling_i, weight_j, ceiling_j, gradient_i, gradient_j, diagonal_i, diagonal_j, entry)
+    pair = ctypes.create_string_buffer(_PAIR.size)
+    function = _library().altuliscia_pair
+    function.restype = ctypes.c_uint64
+    function(*map(_bits, given), _flag(agree), pair, ctypes.c_size_t(_PAIR.size))
+    return _PAIR.unpack(pair.raw)
 
 
 def _without(gone, n, lent, nu_rule, eps, shrinking, budget):

@@ -10,7 +10,7 @@ from itertools import takewhile
 from unittest import mock
 
 import altuliscia
-from altuliscia import Fit, Refusal, fit_c, fit_general, fit_nu, fit_one_class
+from altuliscia import Before, Fit, Refusal, find_pair, fit_c, fit_general, fit_nu, fit_one_class
 
 ROOT = os.path.join(os.path.dirname(os.path.abspath(__file__)), "..", "..")
 IDENTITY = [[1, 0], [0, 1]]
@@ -481,26 +481,56 @@ class RetiredRefused(Refused):
                 fit(*given, retired=[1])
 
 
+class Pairs(unittest.TestCase):
+    def number(self, name):
+        """The double that docs/BYTES.md shows by its bits, in the line of that name."""
+        found = re.search(rf"^    {name:<14}0x([0-9a-f]{{16}})", read("docs/BYTES.md"), re.MULTILINE)
+        return array("d", int(found.group(1), 16).to_bytes(8, "little"))[0]
+
+    def test_the_page(self):
+        i, j = (Before(*(self.number(f"{name}_{k}") for name in Before._fields)) for k in "ij")
+        left = find_pair(i, j, self.number("entry"), shown("agree") != b"\0")
+        self.assertEqual((bits(left), left), (shown("pair"), (0.5, 1.0)))
+
+    def test_forms(self):
+        sample = Before(0.0, 1.0, -1.0, 1.0)
+        for form in (tuple(sample), list(sample), [0, 1, -1, True], array("d", sample)):
+            self.assertEqual(find_pair(form, sample, 0, 0), (1.0, 1.0))
+        # Where the labels agree, what the one loses the other gains.
+        self.assertEqual(find_pair((0.5, 1, 1, 1), (0.25, 1, 0, 1), 0.0, "agree"), (0.0, 0.75))
+        left = find_pair((0.5, 1, math.nan, 1), (0.25, 1, 0, 1), 0.0, True)
+        self.assertTrue(all(math.isnan(weight) for weight in left))
+
+    def test_no_numbers(self):
+        with self.assertRaises(TypeError) as caught:
+            find_pair((0.0, 1.0, "x", 1.0), (0, 1, -1, 1), 0.0, False)
+        self.assertEqual(str(caught.exception), "a double is needed, not 'x'")
+        with self.assertRaises(ValueError):
+            find_pair((0.0, 1.0, -1.0), (0, 1, -1, 1), 0.0, False)
+
+
+def figures(name):
+    """Kernel matrix and labels of the captions to train on, values and labels of those to sort."""
+    lines = [line.split() for line in read(f"captions/{name}.txt").splitlines() if not line.startswith("#")]
+    n = int(lines[2][1])
+    rows = [[int(word) for word in line] for line in lines[4:]]
+    train, held = rows[:n], rows[n:]
+    own = [row[-1] for row in train]
+
+    def value(product, a, b):
+        return product / math.sqrt(a * b)
+
+    matrix = [[value(train[max(c, r)][1 + min(c, r)], own[c], own[r]) for r in range(n)] for c in range(n)]
+    values = [[value(p, row[1], o) for p, o in zip(row[2:], own)] for row in held]
+    return matrix, [row[0] for row in train], values, [row[0] for row in held]
+
+
 class Captions(unittest.TestCase):
     """The captions that ship with the repository, sorted as `./run` says."""
 
-    def figures(self, name):
-        lines = [line.split() for line in read(f"captions/{name}.txt").splitlines() if not line.startswith("#")]
-        n = int(lines[2][1])
-        rows = [[int(word) for word in line] for line in lines[4:]]
-        train, held = rows[:n], rows[n:]
-        own = [row[-1] for row in train]
-
-        def value(product, a, b):
-            return product / math.sqrt(a * b)
-
-        matrix = [[value(train[max(c, r)][1 + min(c, r)], own[c], own[r]) for r in range(n)] for c in range(n)]
-        values = [[value(p, row[1], o) for p, o in zip(row[2:], own)] for row in held]
-        return matrix, [row[0] for row in train], values, [row[0] for row in held]
-
     def test_as_told(self):
         for name, count in (("cs-sk", 8), ("da-sv", 7)):
-            matrix, labels, values, truth = self.figures(name)
+            matrix, labels, values, truth = figures(name)
             pattern = r"^(1e-\d)  +(\d+)  (on|off) +(\d+) +(\d+) \(.*?\) +(\d+) \("
             told = re.findall(pattern, read(f"captions/{name}.expected"), re.MULTILINE)
             self.assertEqual(len(told), count)
@@ -513,7 +543,7 @@ class Captions(unittest.TestCase):
                     self.assertEqual(sum((d >= 0) == (t == 1) for d, t in zip(decisions, truth)), int(right))
 
     def test_retired(self):
-        matrix, labels, values, _ = self.figures("cs-sk")
+        matrix, labels, values, _ = figures("cs-sk")
         gone = {0, 19, 40, 63}
         left = [k for k in range(len(labels)) if k not in gone]
         part = fit_c([[matrix[c][r] for r in left] for c in left], [labels[k] for k in left], 10.0, 10.0, eps=1e-3)
@@ -523,7 +553,7 @@ class Captions(unittest.TestCase):
         self.assertEqual(fit.decision_function(spoilt), part.decision_function([[row[k] for k in left] for row in values]))
 
     def test_refused_as_told(self):
-        matrix, labels, _, _ = self.figures("da-sv")
+        matrix, labels, _, _ = figures("da-sv")
         with self.assertRaises(Refusal) as caught:
             fit_c(matrix, labels, shrinking=True)
         self.assertIn(str(caught.exception), read("captions/da-sv.expected"))

@@ -14,9 +14,11 @@ use crate::run::solve;
 
 mod faint;
 mod retired;
+mod step;
 
 pub use faint::{draw_big_faint, draw_faint};
 pub use retired::{draw_retired, redraw_retired};
+pub use step::draw_step;
 
 /// The least f64 above 0.
 pub const TINY: f64 = 5e-324;

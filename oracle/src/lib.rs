@@ -3,9 +3,9 @@
 //!
 //! - [`problem`]: what a caller lends and asks.
 //! - [`judge`]: every refusal but 11, before anything runs.
-//! - [`run`]: the run itself, refusal 11, both readings.
+//! - [`run`]: the run itself, refusal 11, both readings; a single step.
 //! - [`retired`]: retired samples, taken out before a run and put back.
-//! - [`draw`]: problems from a 64-bit seed.
+//! - [`draw`]: problems and single steps from a 64-bit seed.
 //! - [`marks`]: what a drawn or recorded set reaches.
 //! - [`record`]: the file of recorded answers.
 //! - [`worked`]: the rule's worked examples.
@@ -22,7 +22,7 @@ pub mod run;
 pub mod show;
 pub mod worked;
 
-pub use draw::{draw, draw_faint, draw_retired};
+pub use draw::{draw, draw_faint, draw_retired, draw_step};
 pub use judge::{judge, Refusal};
 pub use problem::{Entry, Problem};
-pub use run::{solve, Accepted, Answer, Outcome, Reason};
+pub use run::{solve, step, Accepted, Answer, Given, Outcome, Reason};

@@ -8,8 +8,10 @@ use faint::{FAINT, WRONG};
 
 mod faint;
 mod retired;
+mod step;
 
 pub use retired::RETIRED;
+pub use step::STEP;
 
 /// How much a tally must have of a mark.
 #[derive(Clone, Copy, Debug, PartialEq, Eq)]

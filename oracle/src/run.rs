@@ -16,7 +16,8 @@ use std::panic::{self, AssertUnwindSafe};
 use std::sync::Once;
 
 pub use linfa::Kept;
-pub use linfa_svm::watch::{Events, Step};
+pub use linfa_svm::solver_smo::chosen::update as step;
+pub use linfa_svm::watch::{Events, Given, Step};
 
 /// Why an accepted run ended.
 #[derive(Clone, Copy, Debug, PartialEq, Eq)]

@@ -22,7 +22,7 @@ fn without_added(text: &str) -> (String, usize) {
 
 #[test]
 fn two_files_are_the_published_ones_but_for_added_lines() {
-    for (name, most_added) in [("solver_smo", 13), ("permutable_kernel", 0)] {
+    for (name, most_added) in [("solver_smo", 15), ("permutable_kernel", 0)] {
         let published = text(&format!("published/{name}.rs.txt"));
         assert!(
             !published.contains(ADDED),
@@ -35,18 +35,20 @@ fn two_files_are_the_published_ones_but_for_added_lines() {
     }
 }
 
-/// Apart from the budget, an added line only writes something down.
+/// Apart from the budget and a file beside it, an added line only writes
+/// something down.
 #[test]
 fn added_lines_write_down_or_set_the_budget() {
     for line in text("linfa-svm/src/solver_smo.rs").lines() {
         let line = line.trim();
         if line.ends_with(ADDED) {
-            let budget = [
+            let others = [
+                "pub mod chosen; // oracle",
                 "pub budget: usize, // oracle",
                 "let max_iter = self.params.budget; // oracle",
             ];
             assert!(
-                line.starts_with("crate::watch::") || budget.contains(&line),
+                line.starts_with("crate::watch::") || others.contains(&line),
                 "{line}"
             );
         }

@@ -23,6 +23,10 @@ use Rattle.altuliscia.proofs.altuliscia_nu.Reads as nu-reads
 use Rattle.altuliscia.proofs.altuliscia_one_class.{signature as one-class-signature}
 use Rattle.altuliscia.proofs.altuliscia_one_class.Kinds as one-class-kinds
 use Rattle.altuliscia.proofs.altuliscia_one_class.Reads as one-class-reads
+use Rattle.altuliscia.specs.Functions.{PairHanded, pairHanded}
+use Rattle.altuliscia.proofs.altuliscia_pair.{signature as pair-signature}
+use Rattle.altuliscia.proofs.altuliscia_pair.Kinds as pair-kinds
+use Rattle.altuliscia.proofs.altuliscia_pair.Reads as pair-reads
 use Rattle.altuliscia.proofs.altuliscia_version.{signature as version-signature}
 use Rattle.altuliscia.proofs.altuliscia_version.Kinds as version-kinds
 use Rattle.altuliscia.proofs.altuliscia_version.Reads as version-reads
@@ -62,6 +66,13 @@ one-class-left κs r s = handed r (now (s .1 .1 .1 .1 .1 .1 .0)) (now (s .1 .1 .
 pub one-class-once : (κs : Lfts 4) (a : ArgsD one-class-signature κs) (r r' : ResD one-class-signature κs) (s s' : AtExit (endedOf 4 one-class-kinds.ps one-class-kinds.r) κs)
     → one-class-reads.Post κs a r s → one-class-reads.Post κs a r' s' → _≡_ {A = Handed} (one-class-left κs r s) (one-class-left κs r' s')
 one-class-once κs a r r' s s' p q = p ∙ sym q
+
+abbrev pair-left : (κs : Lfts 1) → ResD pair-signature κs → AtExit (endedOf 1 pair-kinds.ps pair-kinds.r) κs → PairHanded
+pair-left κs r s = pairHanded r (now (s .1 .1 .1 .1 .1 .1 .1 .1 .1 .1 .0))
+
+pub pair-once : (κs : Lfts 1) (a : ArgsD pair-signature κs) (r r' : ResD pair-signature κs) (s s' : AtExit (endedOf 1 pair-kinds.ps pair-kinds.r) κs)
+    → pair-reads.Post κs a r s → pair-reads.Post κs a r' s' → _≡_ {A = PairHanded} (pair-left κs r s) (pair-left κs r' s')
+pair-once κs a r r' s s' p q = p ∙ sym q
 
 pub version-once : (κs : Lfts 0) (a : ArgsD version-signature κs) (r r' : ResD version-signature κs) (s s' : AtExit (endedOf 0 version-kinds.ps version-kinds.r) κs)
     → version-reads.Post κs a r s → version-reads.Post κs a r' s' → _≡_ {A = ℕ} r r'

@@ -1,11 +1,13 @@
 -- The C functions: each entry over the host's bytes, with its own working room.
 use Prim.Native.Nat.{ℕ}
-use mathlib.Core.Bool.{Bool, true, not, _&&_}
+use mathlib.Core.Bool.{Bool, true, not, _&&_, cond}
 use mathlib.Core.List.{List}
-use lib.Dec.{eqb}
+use lib.Dec.{eqb, ltb}
 use lib.Ieee.{Float, binary64, ofBits}
 use lib.ListN.{length}
+use Rattle.alpha.specs.Weight.{weight}
 use Rattle.classification.specs.Entries.{generalSized, fitCSized, fitNuSized, fitOneClassSized}
+use Rattle.finder.specs.Found.{foundPair, withPair}
 use Rattle.retired.specs.Entry.{retiredSized}
 use Rattle.hosted.specs.Hosted.{floatsOf, eights, hostSizes, room, Handed, delivered, hostedBy}
 
@@ -74,6 +76,21 @@ oneClassHost n m nu eps shrinking budget cr h an =
     h
     an
 
--- 10000·major + 100·minor + patch: 1.1.0
+-- what the host of the pair finder gets back: the result, and its list of bytes
+pub record PairHanded : Type 0 where
+  pub code : ℕ
+  pub pair : List ℕ
+
+abbrev pub pairHanded : ℕ → List ℕ → PairHanded
+pairHanded k out = record { code = k; pair = out }
+
+-- weight and ceiling of i and of j, gradients, diagonals, the entry of row i at j, whether the labels agree; the sixteen bytes
+unfoldable pub pairHost : ℕ → ℕ → ℕ → ℕ → ℕ → ℕ → ℕ → ℕ → ℕ → ℕ → List ℕ → PairHanded
+pairHost ai bi aj bj gi gj di dj r agree out =
+    cond (ltb (length out) 16)
+    (pairHanded 2 out)
+    (pairHanded 0 (withPair out (foundPair (weight (asFloat ai) (asFloat bi)) (weight (asFloat aj) (asFloat bj)) (asFloat gi) (asFloat gj) (asFloat di) (asFloat dj) (asFloat r) (isOn agree))))
+
+-- 10000·major + 100·minor + patch: 1.2.0
 abbrev pub version : ℕ
-version = 10100
+version = 10200

@@ -2,7 +2,7 @@
 ghost use mathlib.Core.Path.{_≡_};
 ghost use Prim.Native.Nat.{ℕ};
 ghost use Rattle.hosted.specs.Hosted.{Handed, handed};
-ghost use Rattle.altuliscia.specs.Functions.{generalHost, retiredHost, cHost, nuHost, oneClassHost, version};
+ghost use Rattle.altuliscia.specs.Functions.{generalHost, retiredHost, cHost, nuHost, oneClassHost, PairHanded, pairHanded, pairHost, version};
 
 // Labels l, ceilings c, start alphas a and linear term p.
 #[no_mangle]
@@ -199,10 +199,44 @@ pub extern "C" fn altuliscia_one_class(
     s
 }
 
+// One step's pair: weight and ceiling of i and of j, gradients, diagonals, the entry of row i at j.
+#[no_mangle]
+pub extern "C" fn altuliscia_pair(
+    ai: u64,
+    bi: u64,
+    aj: u64,
+    bj: u64,
+    gi: u64,
+    gj: u64,
+    di: u64,
+    dj: u64,
+    r: u64,
+    agree: u8,
+    pair: &mut [u8],
+) -> u64
+    ensures { λ k. ⌜ _≡_ {A = PairHanded} (pairHanded k (now (pair .exit))) (pairHost ai bi aj bj gi gj di dj r agree (now (pair .entry))) ⌝ }
+{
+    if pair.len() < 16 {
+        return 2;
+    }
+    let p = finder::find_pair(
+        finder::record_of(ai, bi),
+        finder::record_of(aj, bj),
+        wire::float_of(gi),
+        wire::float_of(gj),
+        wire::float_of(di),
+        wire::float_of(dj),
+        wire::float_of(r),
+        agree != 0,
+    );
+    finder::put_pair(pair, p);
+    0
+}
+
 // Which version this is.
 #[no_mangle]
 pub extern "C" fn altuliscia_version() -> u64
     ensures { λ k. ⌜ _≡_ {A = ℕ} k version ⌝ }
 {
-    10100
+    10200
 }

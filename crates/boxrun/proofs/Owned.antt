@@ -21,6 +21,7 @@ use Rattle.rounding.proofs.Binary64.{limit-parts}
 use Rattle.rounding.proofs.Order.{le-real}
 use Rattle.rounding.proofs.Units.{compare, neg-parts}
 use Rattle.solver.specs.End.{trained}
+use Rattle.solver.specs.Pass.{runs}
 use Rattle.solver.specs.Run.{problemOf}
 use Rattle.solver.specs.declared.Given.{Given}
 use Rattle.start.specs.Start.{laidTo, diagonalTo, gatheredTo, started}
@@ -29,7 +30,8 @@ use Rattle.state.specs.Lists.{Problem, State, Ready, over}
 use Rattle.state.specs.Moving.{moved}
 use Rattle.state.proofs.Kept.{ready-floats, ready-moved}
 use Rattle.state.proofs.Moves.{fields-behind}
-use Rattle.trace.proofs.Kept.{Keeps, pair-keeps, trained-keeps}
+use Rattle.trace.specs.Trace.{startOf}
+use Rattle.trace.proofs.Kept.{Keeps, pair-keeps, runs-keeps, trained-keeps}
 use Rattle.trace.proofs.Rests.{Same, same-laid, same-diagonal, same-gathered, same-reconstructed}
 use Rattle.update.specs.Update.{updated, updatedState}
 use Rattle.update.proofs.Left.{length-updated, behind}
@@ -150,7 +152,14 @@ owned-started p bs {s} w =
     owned-kept {p = p} {s = t} (gatheredTo p bs t (p .n)) (same-gathered p hi bs t (p .n)) (omega arith)
     (record { ready = r; own = λ c h. let a = w .floats in let q = w .square in diagonal-own p f (p .side) c h (omega arith) })
 
--- at the end of a run
+-- at each point of a run
+pub runs-owned : (g : Given) (m : List ℕ) (bs : List Float) (t : ℕ) (s : State) → Ready (problemOf g m) s → Keeps g (Owned (problemOf g m)) (runs g m bs (startOf g m bs s) t)
+runs-owned g m bs t s r =
+    runs-keeps g m (Owned (problemOf g m)) (λ t a l w. owned-reconstructed t a l w) (λ t i j x y w. owned-moved w i j x y) bs
+    (pair-keeps g m (Owned (problemOf g m)) bs (λ t i j a x y l d w. owned-updated (problemOf g m) bs (g .floor) w i j a (omega arith) (omega arith) l))
+    (startOf g m bs s) t (record { kept = owned-started (problemOf g m) bs r; active = omega arith })
+
+-- and at its end
 pub trained-owned : (g : Given) (m : List ℕ) (bs : List Float) (budget : ℕ) (s : State) → Ready (problemOf g m) s → Keeps g (Owned (problemOf g m)) (trained g m bs budget s)
 trained-owned g m bs budget s r =
     trained-keeps g m (Owned (problemOf g m)) (λ t a l w. owned-reconstructed t a l w) (λ t i j x y w. owned-moved w i j x y) bs

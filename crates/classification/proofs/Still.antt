@@ -56,7 +56,7 @@ module _ (g : Given) (m : List ℕ) (b : List Float) (off : g .shrinking ≡ fal
   next-still true w s = onward-still (goes (countedDown g m w .run .status)) (countedDown g m w) (counted-still w s)
   next-still false w s = s
 
-  runs-still : (w : Full) (t : ℕ) → Still u (g .n) w → Still u (g .n) (runs g m b w t)
+  pub runs-still : (w : Full) (t : ℕ) → Still u (g .n) w → Still u (g .n) (runs g m b w t)
   unfolding runs
   runs-still w zero s = s
   runs-still w (suc t) s = next-still (goes (runs g m b w t .run .status)) (runs g m b w t) (runs-still w t s)

@@ -34,7 +34,8 @@ use Rattle.classification.proofs.Accepts.{decided-in}
 use Rattle.promises.proofs.Alike.{served-alike}
 use Rattle.promises.proofs.Box.{Common, served-box, served-no-nan, served-home-box}
 use Rattle.promises.proofs.Boxes.{general-common, cost-at, nu-home-box, one-class-home-box}
-use Rattle.promises.proofs.Doubles.{Double, coefficient-doubled, served-own-double}
+use Rattle.finder.proofs.Doubles.{Double}
+use Rattle.promises.proofs.Doubles.{coefficient-doubled, served-own-double}
 use Rattle.promises.proofs.Home.{served-home}
 use Rattle.promises.proofs.Numbers.{general-sized-number, c-sized-number, nu-sized-number, one-class-sized-number}
 use Rattle.promises.proofs.Travel.{Served, served-travels}

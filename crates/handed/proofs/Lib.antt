@@ -5,3 +5,5 @@ pub mod Numbers
 pub mod Retired
 pub mod Leaves
 pub mod Threshold
+pub mod Trail
+pub mod Pair

@@ -22,7 +22,8 @@ use Rattle.hosted.specs.Hosted.{floatsOf, room, Handed, handed, delivered, turn
 use Rattle.hosted.proofs.Serves.{Serves, inputs-right, serves}
 use Rattle.promises.specs.Fit.{Fit, weightAfter}
 use Rattle.promises.specs.Retired.{retiredFit, silentFit, afterOver, weightOver, pairOver, deltaOver, ownOver}
-use Rattle.promises.proofs.Doubles.{Double, taken-own-double}
+use Rattle.finder.proofs.Doubles.{Double}
+use Rattle.promises.proofs.Doubles.{taken-own-double}
 use Rattle.promises.proofs.Numbers.{retired-sized-number}
 use Rattle.promises.proofs.Retired.{taken-alike, taken-home, taken-reads, taken-travels, taken-pairs, taken-coded}
 use Rattle.promises.proofs.RetiredBox.{taken-box, taken-no-nan, taken-home-box}

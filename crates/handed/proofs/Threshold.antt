@@ -47,7 +47,7 @@ count-told : (x : Answer) (an : List ℕ) → 72 ≤ length an → x .iterations
 unfolding wordsOf
 count-told x an long few = word-at (wordsOf (Accepted x)) an 9 6 long (omega arith) ∙ mod-eq-of-lt (omega arith)
 
-ran-iterations : {k : Fit} {m cr h an : List ℕ} {budget : ℕ} {w : Whole} {o : Handed} → Ran k m cr h an budget w o → Counts k m room budget (digits (o .answer) 48 8)
+pub ran-iterations : {k : Fit} {m cr h an : List ℕ} {budget : ℕ} {w : Whole} {o : Handed} → Ran k m cr h an budget w o → Counts k m room budget (digits (o .answer) 48 8)
 ran-iterations {an = an} r =
     let c = served-iterations (r .served) (r .out .answer) (r .out .accepted) in
     let q = ap (λ (b : List ℕ). digits b 48 8) (r .out .told) ∙ count-told (r .out .answer) an (r .answer-long) (omega (arith, c .1, r .served .usable .budget-most)) in

@@ -1,3 +1,4 @@
 pub mod Gives
 pub mod HandsBack
 pub mod Trains
+pub mod Trail

@@ -13,7 +13,7 @@ use Rattle.answer.specs.declared.Answer.{Answer}
 use Rattle.answer.specs.declared.Outcome.the-variants.{Accepted}
 use Rattle.classification.specs.Entries.{generalOf, fitCOf, fitNuOf, fitOneClassOf}
 use Rattle.fits.proofs.Loaded.{length-numbers, sample-loaded}
-use Rattle.readings.specs.Order.{crateReading, weightIn, Perm}
+use Rattle.readings.specs.Order.{crateReading, homeReading, weightIn, Perm}
 use Rattle.readings.proofs.Order.{length-gathered, crate-at, home-at}
 use Rattle.solver.specs.Run.{Full}
 use Rattle.solver.specs.declared.Given.{Given}
@@ -53,8 +53,13 @@ module _ {k : Fit} {m : List ℕ} {budget : ℕ} {d : Lent} {o : Whole} (v : Ser
     only = own-place;
   }
 
+  -- home reads what stands at the sample's own place
+  pub home-own : (s : ℕ) → s < g .n → getD (homeReading (g .n) (w .state .numbers) weights (d .home)) s nan ≡ weights s
+  unfolding own-order
+  home-own s h = home-at nan (w .state .numbers) weights (d .home) (g .n) s (v .room .home) own-order h
+
   pub served-alike : (s : ℕ) → s < g .n → getD (o .left .crate) s nan ≡ getD (o .left .home) s nan
-  unfolding Solved.crateOf own-order
+  unfolding Solved.crateOf
   served-alike s h =
       ap (λ (t : List Float). getD t s nan) (served-lists v x e .0)
       ∙ finished-at (k .how) (k .labels) (rOf k m d budget) (crateReading (g .n) (w .state .numbers) weights (d .crate)) (g .n) s
@@ -62,7 +67,7 @@ module _ {k : Fit} {m : List ℕ} {budget : ℕ} {d : Lent} {o : Whole} (v : Ser
       ∙ ap (coefficientOf (k .how) (getD (k .labels) s 0) (rOf k m d budget))
       (crate-at nan (w .state .numbers) weights (d .crate) (g .n) s (v .room .crate) h
       ∙ ap weights (own-place s h)
-      ∙ sym (home-at nan (w .state .numbers) weights (d .home) (g .n) s (v .room .home) own-order h))
+      ∙ sym (home-own s h))
       ∙ sym (served-at v x e s h)
 
 module _ (n : ℕ) (m l : List ℕ) (c a p : List Float) (nurule : Bool) (eps : Float) (budget : ℕ) (d : Lent) (x : Answer) (e : generalOf n m l c a p nurule eps false budget d .out ≡ Accepted x) where

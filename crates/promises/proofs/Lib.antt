@@ -14,3 +14,4 @@ pub mod Beyond
 pub mod Leaves
 pub mod Doubles
 pub mod Iterations
+pub mod Trail

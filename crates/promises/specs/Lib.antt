@@ -2,3 +2,4 @@ pub mod Fit
 pub mod Retired
 pub mod Threshold
 pub mod Leaves
+pub mod Trail

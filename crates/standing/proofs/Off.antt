@@ -1,23 +1,21 @@
 -- With shrinking off and what is retired silent, the rule's run is the run over what stands. Assumes nothing.
-use Prim.Native.Nat.{ℕ, zero, suc, _+_, _-_, _*_, _<_, _≤_}
-use mathlib.Core.Bool.{Bool, true, false, _&&_, cond, true≢false}
+use Prim.Native.Nat.{ℕ, zero, suc, _+_, _*_, _<_, _≤_}
+use mathlib.Core.Bool.{Bool, true, false, cond, true≢false}
 use mathlib.Core.List.{List}
 use mathlib.Core.Path.{_≡_, refl, sym, ap, ap₂, _∙_}
 use native.Mathlib.Omega.{arith}
-use borrow.Author.Tests.{eq-eqb, le-ltb}
-use lib.Dec.{eqb, ltb}
 use lib.Ieee.{Float}
 use lib.ListN.{length}
 use Rattle.alpha.specs.Weight.{atLower}
 use Rattle.extreme.specs.declared.Choice.{Choice}
 use Rattle.extreme.specs.declared.Choice.the-variants.{Pair, Optimal}
-use Rattle.reconstruct.specs.Reconstruct.{reconstructed}
-use Rattle.solver.specs.End.{activeAt, closed, trained}
-use Rattle.solver.specs.Pass.{chosen, rebuilt, shrunk, countedDown, stepped, looked, workedBy, onward, passed, next, runs}
-use Rattle.solver.specs.Run.{problemOf, Full, full, withRun, goes, counterAt, ended, period, readyOf}
+use Rattle.solver.specs.End.{trained}
+use Rattle.solver.specs.Pass.{chosen, countedDown, stepped, looked, workedBy, onward, passed, next, runs}
+use Rattle.solver.specs.Run.{problemOf, Full, full, withRun, goes, ended, readyOf}
 use Rattle.solver.specs.declared.Given.{Given}
 use Rattle.start.specs.Start.{started}
 use Rattle.state.specs.Lists.{Problem, State, over}
+use Rattle.trace.proofs.Off.{rebuilt-off, closed-off, counted-off}
 use Rattle.update.specs.Update.{updatedState}
 use Rattle.update.proofs.Left.{length-updated, alpha-other, gradient-active}
 use Rattle.standing.proofs.Alike.{Alike}
@@ -69,21 +67,9 @@ module _ (stands : ℕ → Bool) (g : Given) (m : List ℕ) (off : g .shrinking 
     pub active' : v .run .active ≡ g .n
 
   counted-kin : (w v : Full) → Kin w v → Kin (countedDown g m w) v
-  unfolding countedDown
-  counted-kin w v k = go (ltb 0 (w .run .counter - 1)) (g .shrinking) off
-    where
-      u : Full
-      u = withRun w (counterAt (w .run) (period (g .n)))
-
-      go : (x y : Bool) → y ≡ false → Kin (cond x (withRun w (counterAt (w .run) (w .run .counter - 1))) (cond y (shrunk g m u) u)) v
-      go true y e = record { state = k .state; iterations = k .iterations; status = k .status; active = k .active; active' = k .active' }
-      go false true e = absurd (true≢false e)
-      go false false e = record { state = k .state; iterations = k .iterations; status = k .status; active = k .active; active' = k .active' }
-
-  -- nothing is inactive, so nothing is rebuilt
-  rebuilt-off : (w : Full) → w .run .active ≡ g .n → rebuilt g m w ≡ w
-  unfolding rebuilt reconstructed
-  rebuilt-off w e = rw (e, eq-eqb (g .n) (g .n) refl)
+  counted-kin w v k =
+      let c = counted-off g m off w in
+      record { state = c .state ∙ k .state; iterations = c .iterations ∙ k .iterations; status = c .status ∙ k .status; active = c .active ∙ k .active; active' = k .active' }
 
   module _ (b : List Float) where
     pub record Goes (w v : Full) : Type 0 where
@@ -119,7 +105,7 @@ module _ (stands : ℕ → Bool) (g : Given) (m : List ℕ) (off : g .shrinking 
     worked-goes : (w v : Full) (c : Choice) → chosen g m w ≡ c → chosenOver stands g m (v .state) ≡ c → Goes w v → Goes (workedBy g m b w c) (passedOn stands g m b v c)
     unfolding workedBy passedOn looked
     worked-goes w v (Pair i j) q r k = step-goes w v i j (chosen-stands stands g m m (v .state) (v .state) (alike-self stands p (v .state)) i j r) k
-    worked-goes w v Optimal q r k = rw (rebuilt-off w (k .kin .active), q) (ended-goes w v k)
+    worked-goes w v Optimal q r k = rw (rebuilt-off g m w (k .kin .active), q) (ended-goes w v k)
 
     pass-goes : (w v : Full) → goes (v .run .status) ≡ true → Goes w v → Goes (passed g m b w) (passedOn stands g m b v (chosenOver stands g m (v .state)))
     unfolding passed onward
@@ -144,15 +130,6 @@ module _ (stands : ℕ → Bool) (g : Given) (m : List ℕ) (off : g .shrinking 
         let y = runsOver stands g m b v t in
         rw (ap goes (z .kin .status)) (next-goes (goes (y .run .status)) x y refl z)
 
-    closed-off : (budget : ℕ) (w : Full) → w .run .active ≡ g .n → closed g m budget w ≡ w
-    unfolding closed
-    closed-off budget w e = go (eqb (w .run .iterations) budget) (ltb (w .run .active) (g .n)) (le-ltb (w .run .active) (g .n) (omega arith))
-      where
-        go : (x y : Bool) → y ≡ false → cond (x && y) (withRun (rebuilt g m w) (activeAt (w .run) (g .n))) w ≡ w
-        go true true h = absurd (true≢false h)
-        go true false h = refl
-        go false y h = refl
-
     -- the whole: s has been started silent
     pub trained-goes : (budget : ℕ) (s : State) → Silent stands p (over s (started p b s)) → 7 * g .n ≤ length (started p b s)
         → Goes (trained g m b budget s) (trainedOver stands g m b budget s)
@@ -160,4 +137,4 @@ module _ (stands : ℕ → Bool) (g : Given) (m : List ℕ) (off : g .shrinking 
     trained-goes budget s S long =
         let w = full (readyOf (g .n)) (started p b s) (s .numbers) (s .labels) in
         let k = runs-goes w w budget (record { kin = record { state = refl; iterations = refl; status = refl; active = refl; active' = refl }; silent = S; long = long }) in
-        rw (closed-off budget (runs g m b w budget) (k .kin .active)) k
+        rw (closed-off g m budget (runs g m b w budget) (k .kin .active)) k

@@ -2,12 +2,12 @@
 --
 -- Main theorems:
 --   step-left: the step that a pass adds is of two active positions, of the samples that stood there, with the weights that the update left
---   each-step: each step of a trace is that of a pass which was made
+--   each-step: the k-th step of a trace is that of pass k, which was made
 use Prim.Native.Nat.{ℕ, zero, suc, _*_, _≤_, _<_}
 use mathlib.Core.Bool.{Bool, true, false}
 use mathlib.Core.List.{List, [], _∷_, _++_, append-nil}
 use mathlib.Core.Logic.{inl, inr}
-use mathlib.Core.Path.{_≡_, refl, sym, ap, _∙_}
+use mathlib.Core.Path.{_≡_, refl, sym, ap, subst, _∙_}
 use native.Mathlib.Nat.{eq-or-lt-of-le}
 use native.Mathlib.Omega.{arith}
 use lib.Ieee.{Float, nan}
@@ -30,6 +30,7 @@ use Rattle.trace.specs.Trace.{Step, lookBy, lookAt, pairFrom, stepAt, st
 use Rattle.trace.proofs.Kept.{chosen-apart, rebuilt-keeps, counted-keeps}
 use Rattle.trace.proofs.Passes.{look-run, pass-steps, pair-look}
 use Rattle.trace.proofs.Rests.{same-reconstructed}
+use Rattle.trace.proofs.Trace.{steps-going}
 
 module _ (g : Given) (m : List ℕ) where
   -- the floats are long enough
@@ -108,18 +109,13 @@ module _ (g : Given) (m : List ℕ) where
 
     -- ---- each step of a trace
 
-    -- e is the step of pass u, which was made
-    pub record StepOf (w : Full) (t : ℕ) (e : Step) : Type 0 where
-      pub pass : ℕ
-      pub before : pass < t
-      pub going : goes (runs g m b w pass .run .status) ≡ true
-      pub pair : pairFrom g m (runs g m b w pass) ≡ Pair (e .i) (e .j)
-      pub is : e ≡ stepAt g m (passed g m b (runs g m b w pass)) (e .i) (e .j)
+    -- e is the step of pass k, which was made
+    pub record StepOf (w : Full) (k : ℕ) (e : Step) : Type 0 where
+      pub going : goes (runs g m b w k .run .status) ≡ true
+      pub pair : pairFrom g m (runs g m b w k) ≡ Pair (e .i) (e .j)
+      pub is : e ≡ stepAt g m (passed g m b (runs g m b w k)) (e .i) (e .j)
 
-    later : (w : Full) (t : ℕ) (e : Step) → StepOf w t e → StepOf w (suc t) e
-    later w t e s = let l = s .before in record { pass = s .pass; before = omega arith; going = s .going; pair = s .pair; is = s .is }
-
-    pub each-step : (w : Full) (t k : ℕ) (d : Step) → k < length (traced g m b w t) → StepOf w t (getD (traced g m b w t) k d)
+    pub each-step : (w : Full) (t k : ℕ) (d : Step) → k < length (traced g m b w t) → StepOf w k (getD (traced g m b w t) k d)
     unfolding traced added stepsOf
     each-step w zero k d h = let z : ⊥ = omega arith in absurd z
     each-step w (suc t) k d h = go (goes (v .run .status)) refl (each-step w t k d) h
@@ -127,25 +123,24 @@ module _ (g : Given) (m : List ℕ) where
         v : Full
         v = runs g m b w t
 
-        old : (es : List Step) (l : k < length (traced g m b w t)) → StepOf w t (getD (traced g m b w t) k d)
-            → StepOf w (suc t) (getD (traced g m b w t ++ es) k d)
-        old es l s = rw (List·getD-append (traced g m b w t) es d k l) (later w t (getD (traced g m b w t) k d) s)
+        old : (es : List Step) (l : k < length (traced g m b w t)) → StepOf w k (getD (traced g m b w t) k d) → StepOf w k (getD (traced g m b w t ++ es) k d)
+        old es l s = rw (List·getD-append (traced g m b w t) es d k l) s
 
-        one : (c : Choice) → goes (v .run .status) ≡ true → pairFrom g m v ≡ c → (k < length (traced g m b w t) → StepOf w t (getD (traced g m b w t) k d))
+        one : (c : Choice) → goes (v .run .status) ≡ true → pairFrom g m v ≡ c → (k < length (traced g m b w t) → StepOf w k (getD (traced g m b w t) k d))
             → k < length (traced g m b w t ++ stepsOf g m (passed g m b v) c)
-            → StepOf w (suc t) (getD (traced g m b w t ++ stepsOf g m (passed g m b v) c) k d)
+            → StepOf w k (getD (traced g m b w t ++ stepsOf g m (passed g m b v) c) k d)
         one (Pair i j) going e ih l =
             let s = length-append (traced g m b w t) (stepAt g m (passed g m b v) i j ∷ []) in
             let r : k ≤ length (traced g m b w t) = omega arith in
             elim (eq-or-lt-of-le r) [
               | inl z ↦
                   rw (getD-at (traced g m b w t) (stepAt g m (passed g m b v) i j) [] d k (sym z))
-                  (record { pass = t; before = omega arith; going = going; pair = e; is = refl })
+                  (subst (λ (u : ℕ). StepOf w u (stepAt g m (passed g m b v) i j)) (sym (z ∙ steps-going g m b w t going)) (record { going = going; pair = e; is = refl }))
               | inr z ↦ old (stepAt g m (passed g m b v) i j ∷ []) z (ih z)
             ]
         one Optimal going e ih l = let z = append-nil (traced g m b w t) in let y = rw z at l in old [] y (ih y)
 
-        go : (x : Bool) → goes (v .run .status) ≡ x → (k < length (traced g m b w t) → StepOf w t (getD (traced g m b w t) k d))
-            → k < length (traced g m b w t ++ added g m b x v) → StepOf w (suc t) (getD (traced g m b w t ++ added g m b x v) k d)
+        go : (x : Bool) → goes (v .run .status) ≡ x → (k < length (traced g m b w t) → StepOf w k (getD (traced g m b w t) k d))
+            → k < length (traced g m b w t ++ added g m b x v) → StepOf w k (getD (traced g m b w t ++ added g m b x v) k d)
         go true e ih l = one (pairFrom g m v) e refl ih l
         go false e ih l = let z = append-nil (traced g m b w t) in let y = rw z at l in old [] y (ih y)

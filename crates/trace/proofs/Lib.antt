@@ -1,6 +1,7 @@
 pub mod Rests
 pub mod Kept
 pub mod Passes
+pub mod Off
 pub mod Trace
 pub mod Left
 pub mod Rule

@@ -5,13 +5,14 @@
 --   pass-by-pass: each state is the pass of the one before
 --   last-state: the run's end is the last of them, or its start where there is none
 --   states-off: a run that has stopped makes no pass; `traced-off`: and no step
+--   runs-more: a run of more passes goes on from what the first ones left; `traced-more`: with the same steps and more
 --   iterations-are-steps: the iterations of a run grow by the number of its steps
 --   steps-at-most: t passes make at most t steps; `steps-going`: exactly t while the run goes on
 --   trained-iterations: the count that is answered is the number of steps; `trained-at-most`: at most the budget
 --   trained-last: the answer is read off the last state
 use Prim.Native.Nat.{ℕ, zero, suc, _+_, _≤_, _<_}
 use mathlib.Core.Bool.{Bool, true, false, _&&_, cond, true≢false}
-use mathlib.Core.List.{List, [], _∷_, _++_, append-nil}
+use mathlib.Core.List.{List, [], _∷_, _++_, append-nil, append-assoc}
 use mathlib.Core.Logic.{inl, inr}
 use mathlib.Core.Path.{_≡_, refl, sym, ap, _∙_}
 use native.Mathlib.Nat.{add-zero, zero-add, suc-add, eq-or-lt-of-le}
@@ -106,6 +107,19 @@ module _ (g : Given) (m : List ℕ) (b : List Float) (w : Full) where
   unfolding traced added
   traced-off t zero h = simp zero-add
   traced-off t (suc k) h = rw (suc-add, runs-off g m w b t k h, h) (append-nil (traced g m b w (k + t)) ∙ traced-off t k h)
+
+  -- the first t passes of a run are the run of t passes: a longer one goes on from there
+  pub runs-more : (t u : ℕ) → runs g m b w (u + t) ≡ runs g m b (runs g m b w t) u
+  unfolding runs
+  runs-more t zero = simp zero-add
+  runs-more t (suc u) = rw (suc-add) (ap (λ (v : Full). next g m b (goes (v .run .status)) v) (runs-more t u))
+
+  pub traced-more : (t u : ℕ) → traced g m b w (u + t) ≡ traced g m b w t ++ traced g m b (runs g m b w t) u
+  unfolding traced
+  traced-more t zero = rw (zero-add) (sym (append-nil (traced g m b w t)))
+  traced-more t (suc u) =
+      let v = runs g m b (runs g m b w t) u in
+      rw (suc-add, traced-more t u, runs-more t u) (append-assoc (traced g m b w t) (traced g m b (runs g m b w t) u) (added g m b (goes (v .run .status)) v))
 
 -- ---- iterations
 

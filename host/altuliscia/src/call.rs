@@ -2,9 +2,12 @@
 #![allow(unsafe_code)]
 
 use crate::functions::{
-    altuliscia_c, altuliscia_general, altuliscia_nu, altuliscia_one_class, altuliscia_retired,
+    altuliscia_c, altuliscia_general, altuliscia_nu, altuliscia_one_class, altuliscia_pair,
+    altuliscia_retired,
 };
-use crate::{Answer, ExitReason, General, OneClass, Options, Problem, Refusal, MOST_SAMPLES};
+use crate::{
+    Answer, Before, ExitReason, General, OneClass, Options, Problem, Refusal, MOST_SAMPLES,
+};
 
 /// The bytes of an answer.
 const ANSWER: usize = 72;
@@ -125,6 +128,19 @@ pub(crate) fn one_class(s: &OneClass, nu: f64, o: &Options, room: &mut Room) -> 
     }
 }
 
+/// There is room for both weights, so the result is 0.
+#[rustfmt::skip]
+pub(crate) fn pair(i: &Before, j: &Before, entry: f64, agree: bool) -> (f64, f64) {
+    let mut left = [0.0; 2];
+    let room = bytes(&left);
+    unsafe {
+        altuliscia_pair(i.weight.to_bits(), i.ceiling.to_bits(), j.weight.to_bits(), j.ceiling.to_bits(),
+            i.gradient.to_bits(), j.gradient.to_bits(), i.diagonal.to_bits(), j.diagonal.to_bits(),
+            entry.to_bits(), u8::from(agree), left.as_mut_ptr().cast(), room);
+    }
+    (left[0], left[1])
+}
+
 #[cfg(test)]
 mod tests {
     use super::*;
@@ -210,6 +226,45 @@ mod tests {
             assert_eq!(left.answer[16..], [0; ANSWER - 16]);
         }
         (result, left.word(0), left.word(1))
+    }
+
+    /// The number that docs/BYTES.md shows in the line of that name.
+    fn number(name: &str) -> u64 {
+        let text = include_str!("../../../docs/BYTES.md");
+        let start = format!("    {:<14}0x", name);
+        let line = text.lines().find_map(|l| l.strip_prefix(&start)).unwrap();
+        u64::from_str_radix(&line[..16], 16).unwrap()
+    }
+
+    /// The step that docs/BYTES.md shows, with so many bytes of room out of 24: its result and all of them.
+    #[rustfmt::skip]
+    fn raw_pair(room: usize) -> (u64, Vec<u8>) {
+        let mut left = vec![7; 24];
+        let result = unsafe {
+            altuliscia_pair(number("weight_i"), number("ceiling_i"), number("weight_j"), number("ceiling_j"),
+                number("gradient_i"), number("gradient_j"), number("diagonal_i"), number("diagonal_j"),
+                number("entry"), shown("agree")[0], left.as_mut_ptr(), room)
+        };
+        (result, left)
+    }
+
+    #[test]
+    fn a_step_leaves_what_the_document_shows() {
+        for room in [16, 17, 24] {
+            let (result, left) = raw_pair(room);
+            assert_eq!((result, &left[16..]), (0, &[7; 8][..]));
+            assert_eq!(left[..16], shown("pair"));
+        }
+        for room in [0, 1, 15] {
+            assert_eq!(raw_pair(room), (2, vec![7; 24]));
+        }
+        let before = |k: &str| Before {
+            weight: f64::from_bits(number(&format!("weight_{}", k))),
+            ceiling: f64::from_bits(number(&format!("ceiling_{}", k))),
+            gradient: f64::from_bits(number(&format!("gradient_{}", k))),
+            diagonal: f64::from_bits(number(&format!("diagonal_{}", k))),
+        };
+        assert_eq!(pair(&before("i"), &before("j"), -0.5, false), (0.5, 1.0));
     }
 
     /// What no list of `bool` and no call of this crate can lead to.

@@ -20,4 +20,6 @@ extern "C" {
     pub fn altuliscia_one_class(n: usize, matrix: *const u8, matrix_len: usize,
         nu: u64, eps: u64, shrinking: u8, budget: u64, crate_reading: *mut u8, crate_reading_len: usize,
         home: *mut u8, home_len: usize, answer: *mut u8, answer_len: usize) -> u64;
+    pub fn altuliscia_pair(weight_i: u64, ceiling_i: u64, weight_j: u64, ceiling_j: u64, gradient_i: u64, gradient_j: u64,
+        diagonal_i: u64, diagonal_j: u64, entry: u64, agree: u8, pair: *mut u8, pair_len: usize) -> u64;
 }

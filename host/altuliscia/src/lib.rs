@@ -1,5 +1,5 @@
 //! A support vector machine trainer (SMO on a precomputed kernel: C, nu, one class) that is proved to meet its contract, for Rust: the
-//! five functions of `include/altuliscia.h` with types. This crate itself is tested, not proved.
+//! functions of `include/altuliscia.h` with types. This crate itself is tested, not proved.
 //!
 //! A problem is a kernel matrix with labels; a fit trains it and hands back an [`Answer`] or a [`Refusal`]. Nothing here panics,
 //! whatever is handed in. Calls keep no state, so they may be made from several threads at once.
@@ -47,13 +47,25 @@
 //!
 //! A sample that is withdrawn is retired, never taken out, so every other keeps its number: [`fit_c_retired`] and [`fit_retired`] train
 //! as if it weren't there, and its weight is 0.
+//!
+//! # Where a weight came from
+//!
+//! [`trail`] follows one sample through a training, given as a [`Training`]: where its weight started and every step that chose it, compared
+//! with the library's own calls. [`find_pair`] is one such step by itself.
 #![deny(missing_docs, unsafe_code)]
 
 mod call;
 mod functions;
+mod pair;
 mod refusal;
+mod replay;
+mod trail;
+mod training;
 
+pub use pair::{find_pair, Before};
 pub use refusal::Refusal;
+pub use trail::{trail, NoTrail, Step, Trail};
+pub use training::Training;
 
 /// The most samples that a problem may have.
 pub const MOST_SAMPLES: usize = 512;

@@ -10,6 +10,7 @@ pub enum Command {
     Train,
     Weights,
     Check,
+    Trail,
 }
 
 #[derive(Clone, Copy, Debug, PartialEq, Eq)]
@@ -31,6 +32,10 @@ pub struct Settings {
     pub weights: Vec<(i32, f64)>,
     /// The serial numbers of retired samples, or the name of a file that has them.
     pub retired: Option<String>,
+    /// The serial number of the sample to follow.
+    pub sample: Option<String>,
+    /// The name of a file with a caption for each sample.
+    pub captions: Option<String>,
     pub budget: u64,
     pub quiet: bool,
 }
@@ -44,6 +49,8 @@ impl Settings {
         shrinking: false,
         weights: Vec::new(),
         retired: None,
+        sample: None,
+        captions: None,
         budget: MOST_PASSES,
         quiet: false,
     };
@@ -93,6 +100,7 @@ pub fn parse(words: &[String]) -> Result<Words, Trouble> {
         Some("train") => (Command::Train, help::TRAIN),
         Some("weights") => (Command::Weights, help::WEIGHTS),
         Some("check") => (Command::Check, help::CHECK),
+        Some("trail") => (Command::Trail, help::TRAIL),
         Some("--help") => return Ok(Words::Help(help::ALL)),
         Some("--version") => return Ok(Words::Help(help::VERSION)),
         Some(other) => return usage(format!("there is no command '{}'", other)),
@@ -118,9 +126,7 @@ pub fn parse(words: &[String]) -> Result<Words, Trouble> {
             file => files.push(file.to_string()),
         }
     }
-    if settings.retired.is_some() && settings.fit != Fit::C {
-        return usage("--retired: only -s 0 trains with retired samples".to_string());
-    }
+    fits_together(command, &settings)?;
     let most = if command == Command::Train { 2 } else { 1 };
     if files.len() > most {
         return usage(format!("'{}' is one file too many", files[most]));
@@ -134,6 +140,25 @@ pub fn parse(words: &[String]) -> Result<Words, Trouble> {
             settings,
         })),
         None => usage("a file is missing".to_string()),
+    }
+}
+
+/// Whether the options make sense beside each other.
+fn fits_together(command: Command, s: &Settings) -> Result<(), Trouble> {
+    let trail = command == Command::Trail;
+    let own = [("--sample", &s.sample), ("--captions", &s.captions)];
+    if let Some((option, _)) = own.iter().find(|(_, value)| value.is_some() && !trail) {
+        return usage(format!("{}: only `trail` has it", option));
+    }
+    if s.retired.is_some() && s.fit != Fit::C {
+        return usage("--retired: only -s 0 trains with retired samples".to_string());
+    }
+    match (trail, &s.sample) {
+        (true, None) => usage("--sample, the serial number to follow, is missing".to_string()),
+        (true, _) if s.shrinking => usage(
+            "-h 1: with shrinking on samples move, so a trail is told with -h 0 only".to_string(),
+        ),
+        _ => Ok(()),
     }
 }
 
@@ -151,8 +176,9 @@ fn passes(option: &str, value: &str) -> Result<u64, Trouble> {
 }
 
 fn has_value(option: &str) -> bool {
-    let known = ["-s", "-t", "-c", "-n", "-e", "-h", "--budget", "--retired"];
-    known.contains(&option) || option.starts_with("-w")
+    let known = ["-s", "-t", "-c", "-n", "-e", "-h", "--budget"];
+    let named = ["--retired", "--sample", "--captions"];
+    known.contains(&option) || named.contains(&option) || option.starts_with("-w")
 }
 
 fn set(s: &mut Settings, option: &str, value: &str) -> Result<(), Trouble> {
@@ -183,6 +209,11 @@ fn set(s: &mut Settings, option: &str, value: &str) -> Result<(), Trouble> {
             return usage("--retired: it is there twice; one list has them all".to_string())
         }
         "--retired" => s.retired = Some(value.to_string()),
+        "--sample" if s.sample.is_some() => {
+            return usage("--sample: it is there twice; one sample is followed".to_string())
+        }
+        "--sample" => s.sample = Some(value.to_string()),
+        "--captions" => s.captions = Some(value.to_string()),
         _ if option.starts_with("-w") => {
             let label = number(option, &option[2..], "a label, which is a whole number")?;
             s.weights.push((label, float()?));
@@ -227,6 +258,10 @@ mod tests {
         assert_eq!(c.settings.retired.as_deref(), Some("20,31"));
         assert_eq!(call("weights a").command, Command::Weights);
         assert_eq!(call("check a").command, Command::Check);
+        let c = call("trail --sample 20 --captions a.captions --retired 3 a");
+        assert_eq!((c.command, c.file.as_str()), (Command::Trail, "a"));
+        assert_eq!(c.settings.sample.as_deref(), Some("20"));
+        assert_eq!(c.settings.captions.as_deref(), Some("a.captions"));
     }
 
     #[test]
@@ -279,6 +314,26 @@ mod tests {
                 "--retired: it is there twice; one list has them all",
             ),
             (
+                "trail a",
+                "--sample, the serial number to follow, is missing",
+            ),
+            ("trail --sample 1", "a file is missing"),
+            ("trail --sample 1 a b", "'b' is one file too many"),
+            (
+                "trail --sample 1 --sample 2 a",
+                "--sample: it is there twice; one sample is followed",
+            ),
+            (
+                "trail --sample 1 -h 1 a",
+                "-h 1: with shrinking on samples move, so a trail is told with -h 0 only",
+            ),
+            (
+                "trail --sample 1 --retired 2 -s 2 a",
+                "--retired: only -s 0 trains with retired samples",
+            ),
+            ("weights --sample 1 a", "--sample: only `trail` has it"),
+            ("train --captions 1 a", "--captions: only `trail` has it"),
+            (
                 "train --retired 1 -s 1 a",
                 "--retired: only -s 0 trains with retired samples",
             ),
@@ -312,6 +367,8 @@ mod tests {
             "-h",
             "--budget",
             "--retired",
+            "--sample",
+            "--captions",
             "-w1",
             "-x",
             "-v",

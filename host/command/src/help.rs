@@ -5,9 +5,10 @@ pub const VERSION: &str = concat!("altuliscia ", env!("CARGO_PKG_VERSION"), "\n"
 /// The exit statuses.
 macro_rules! statuses {
     () => {
-        "Exit status: 0 done, 2 the words make no sense, 3 a file can't be read, or holds no problem or no
-list of serial numbers, 4 something can't be written, 10 + N the library's refusal N (11 to 23).
-What was wrong is told on standard error.
+        "Exit status: 0 done, 2 the words make no sense, 3 a file can't be read, or holds no problem, no list
+of serial numbers or no captions, 4 something can't be written, 5 a trail isn't what the library
+answers, which is a fault of this program, 10 + N the library's refusal N (11 to 23). What was wrong
+is told on standard error.
 "
     };
 }
@@ -60,6 +61,8 @@ libaltuliscia.a.
   altuliscia train FILE [MODEL]   trains, and writes a model file that LIBSVM's svm-predict reads
   altuliscia weights FILE         trains, and lists every sample with its weight
   altuliscia check FILE           names all that the library would refuse, without training
+  altuliscia trail --sample S FILE
+                                  trains, and tells where the weight of serial number S came from
 
 `altuliscia COMMAND --help` tells of each, with its options. An example: the file small.txt has
 
@@ -104,6 +107,37 @@ FILE, its label, its own weight (signed by its class), `at` where the weight is 
 what the Rust crate linfa-svm says where that is another weight.
 The exit reason, rho and the notes of `train` are told on standard error, and who is retired; with
 -q only the notes, and the exit reason where it is iterations. No file is written.
+
+",
+    options!(),
+    statuses!()
+);
+
+pub const TRAIL: &str = concat!(
+    "altuliscia trail [OPTIONS] --sample S FILE
+
+Trains the problem of FILE and tells where the weight of one sample came from: where it started,
+each step that chose it, and what is answered. docs/TRAIL.md reads such a list.
+
+  --sample S  the serial number, in FILE, of the sample to follow
+  --captions TEXTS
+              a text file with a caption for each sample of FILE, a line each in their order: then
+              the caption stands beside each serial number
+
+A step has two samples. The first table has its pass, the other sample (its partner) with its label,
+whether the followed one was the first of the pair (i) or the second (j), the step, which is what it
+would add to the weight, what clipping left of that where it clipped, and the weight that was left.
+The second has what each step was computed from: the gradients of both, the diagonals of both, the
+entry of row i at j (the kernel value, negated where the labels differ), the partner's weight and
+its ceiling. Weights stand in the tables without sign and, with -s 1, not divided by r.
+
+The list is made by a replay of the run and compared with the library's own calls: for each of these
+steps one whose budget ends before it and one whose budget ends with it, and the whole run. All
+weights must be the same, bit for bit; else nothing but that is told (status 5). Gradients, steps
+and who is first are the replay's: no call tells them. Each time that the sample was chosen takes
+two trainings. There is no trail with -h 1. The exit reason, rho and the notes of `train` are told
+on standard error, and who is retired; with -q only the notes, and the exit reason where it is
+iterations. No file is written.
 
 ",
     options!(),

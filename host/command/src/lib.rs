@@ -10,13 +10,13 @@ mod progress;
 mod report;
 mod retired;
 mod save;
+mod text;
+mod trail;
 mod trouble;
 
 pub use trouble::Trouble;
 
-use altuliscia::{
-    fit_c, fit_c_retired, fit_nu, fit_one_class, Answer, OneClass, Options, Problem, Refusal,
-};
+use altuliscia::{Answer, OneClass, Options, Problem, Refusal, Training};
 use arguments::{Call, Command, Fit, Settings, Words};
 use problem::Samples;
 use std::io::Write;
@@ -48,6 +48,7 @@ fn carried_out(
     let settings = &call.settings;
     let (samples, listed) = progress::shown(err, terminal, "reading", || read(call))?;
     let ceilings = settings.ceilings(&samples)?;
+    let finger = trail::finger(&samples, settings)?;
     let faults = faults::faults(&samples, settings, ceilings, listed);
     if call.command == Command::Check {
         return checked(&samples, settings, faults, out);
@@ -55,12 +56,21 @@ fn carried_out(
     if let Some(first) = faults.into_iter().next() {
         return Err(first);
     }
-    let answer = progress::shown(err, terminal, "training", || {
-        trained(&samples, settings, ceilings)
-    })?;
+    let answer = match finger {
+        Some(finger) => {
+            let followed = || trail::followed(&samples, settings, ceilings, finger.sample);
+            let trail = progress::shown(err, terminal, "following", followed)?;
+            tell(out, &trail::text(&samples, settings, &finger, &trail))?;
+            trail.answer
+        }
+        None => {
+            let trained = || trained(&samples, settings, ceilings);
+            progress::shown(err, terminal, "training", trained)?
+        }
+    };
     if call.command == Command::Weights {
         tell(out, &report::weights(&samples, settings, ceilings, &answer))?;
-    } else {
+    } else if call.command == Command::Train {
         save::whole(&path, &model::text(&samples, settings, &answer))?;
         if !settings.quiet {
             return tell(out, &report::summary(&samples, settings, ceilings, &answer));
@@ -113,28 +123,49 @@ fn trained(s: &Samples, settings: &Settings, costs: (f64, f64)) -> Result<Answer
 }
 
 /// What the library answers.
-fn answered(s: &Samples, settings: &Settings, (cpos, cneg): (f64, f64)) -> Result<Answer, Refusal> {
-    let options = Options {
+fn answered(s: &Samples, settings: &Settings, costs: (f64, f64)) -> Result<Answer, Refusal> {
+    let labels = s.positive();
+    training(s, settings, costs, &labels).fit(&options(settings))
+}
+
+fn options(settings: &Settings) -> Options {
+    Options {
         eps: settings.eps,
         shrinking: settings.shrinking,
         budget: settings.budget,
-    };
-    let labels: Vec<bool> = s.labels.iter().map(|label| *label == 1).collect();
+    }
+}
+
+/// What the settings ask to train. The labels are those of the samples.
+fn training<'a>(
+    s: &'a Samples,
+    settings: &Settings,
+    (cpos, cneg): (f64, f64),
+    labels: &'a [bool],
+) -> Training<'a> {
+    let nu = settings.nu;
     let problem = Problem {
         matrix: &s.matrix,
-        labels: &labels,
+        labels,
     };
-    let one = OneClass {
+    let samples = OneClass {
         n: s.n,
         matrix: &s.matrix,
     };
     match settings.fit {
-        Fit::C if settings.retired.is_some() => {
-            fit_c_retired(&problem, cpos, cneg, &s.retired, &options)
-        }
-        Fit::C => fit_c(&problem, cpos, cneg, &options),
-        Fit::Nu => fit_nu(&problem, settings.nu, &options),
-        Fit::OneClass => fit_one_class(&one, settings.nu, &options),
+        Fit::C if settings.retired.is_some() => Training::CRetired {
+            problem,
+            cpos,
+            cneg,
+            retired: &s.retired,
+        },
+        Fit::C => Training::C {
+            problem,
+            cpos,
+            cneg,
+        },
+        Fit::Nu => Training::Nu { problem, nu },
+        Fit::OneClass => Training::OneClass { samples, nu },
     }
 }
 

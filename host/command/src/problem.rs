@@ -37,6 +37,50 @@ impl Samples {
         }
     }
 
+    /// The one sample that has this serial number.
+    pub fn with_serial(&self, word: &str) -> Result<usize, String> {
+        if word.is_empty() || !word.bytes().all(|byte| byte.is_ascii_digit()) {
+            return Err(format!(
+                "'{}' is not a serial number, which is a whole number",
+                word
+            ));
+        }
+        let serial: Option<u64> = word.parse().ok();
+        let found: Vec<usize> = (0..self.serials.len())
+            .filter(|k| Some(self.serials[*k]) == serial)
+            .collect();
+        match found[..] {
+            [] => Err(format!(
+                "no sample of {} has the serial number {}",
+                self.path, word
+            )),
+            [k] => Ok(k),
+            _ => {
+                // Only a text can give a serial number twice.
+                let places: Vec<String> = found.iter().map(|k| self.place(*k, 0)).collect();
+                Err(format!(
+                    "the serial number {} is that of several samples: {}",
+                    word,
+                    places.join(", ")
+                ))
+            }
+        }
+    }
+
+    /// Which samples are of the first class.
+    pub fn positive(&self) -> Vec<bool> {
+        self.labels.iter().map(|label| *label == 1).collect()
+    }
+
+    /// What a sample's class is called; nothing where only one class is trained.
+    pub fn label(&self, k: usize) -> String {
+        match (self.labels.get(k), &self.classes[..]) {
+            (Some(1), [first, _]) => first.to_string(),
+            (Some(_), [_, second]) => second.to_string(),
+            _ => String::new(),
+        }
+    }
+
     /// How many samples are retired.
     pub fn gone(&self) -> usize {
         self.retired.iter().filter(|retired| **retired).count()

@@ -170,11 +170,6 @@ pub fn weights(s: &Samples, settings: &Settings, ceilings: (f64, f64), a: &Answe
     let mut lines =
         vec!["sample serial  label  weight                    ceiling  linfa-svm says".to_string()];
     for k in 0..s.n {
-        let label = match (s.labels.get(k), &s.classes[..]) {
-            (Some(1), [first, _]) => first.to_string(),
-            (Some(_), [_, second]) => second.to_string(),
-            _ => String::new(),
-        };
         let other = if differs(a, k) {
             double(a.crate_reading[k])
         } else {
@@ -188,7 +183,7 @@ pub fn weights(s: &Samples, settings: &Settings, ceilings: (f64, f64), a: &Answe
             "{:>6} {:>6} {:>6}  {:<24}  {:<7}  {}",
             k,
             s.serials[k],
-            label,
+            s.label(k),
             double(a.home[k]),
             mark.unwrap_or_default(),
             other

@@ -1,6 +1,6 @@
 //! The list of retired samples: serial numbers, in the words of a call or in a file.
 use crate::problem::Samples;
-use crate::Trouble;
+use crate::{text, Trouble};
 use std::collections::BTreeMap;
 
 /// Where a list stands: in a file of that name, or in the call itself.
@@ -23,7 +23,7 @@ impl Source<'_> {
         format!("the serial number {} is named twice{}", word, before)
     }
 
-    /// The list's text. A file may begin with the mark that some editors set before UTF-8.
+    /// The list's text.
     fn text(&self, list: &str) -> Result<String, Trouble> {
         let path = match self.0 {
             Some(path) => path,
@@ -35,13 +35,7 @@ impl Source<'_> {
                 path, e
             ))
         })?;
-        let data = data.strip_prefix(b"\xef\xbb\xbf").unwrap_or(&data);
-        let text = std::str::from_utf8(data).map_err(|e| {
-            let before = &data[..e.valid_up_to()];
-            let line = 1 + before.iter().filter(|byte| **byte == b'\n').count();
-            self.wrong(Some(line), "not a text in UTF-8")
-        })?;
-        Ok(text.to_string())
+        text::decoded(path, &data)
     }
 }
 
@@ -64,7 +58,7 @@ pub fn mark(s: &mut Samples, list: &str) -> Result<Vec<Trouble>, Trouble> {
     // The samples that are named, and the line of each.
     let mut named = BTreeMap::new();
     for (line, word) in words {
-        let told = match sample(s, word) {
+        let told = match named_by(s, word) {
             Ok(k) => match named.insert(k, line) {
                 Some(before) => source.twice(word, before),
                 None => continue,
@@ -102,6 +96,13 @@ fn whose(s: &Samples) -> Option<String> {
     }
 }
 
+fn named_by(s: &Samples, word: &str) -> Result<usize, String> {
+    match word {
+        "" => Err("a comma has no serial number before it".to_string()),
+        _ => s.with_serial(word),
+    }
+}
+
 /// The words of a list, each with its line. An empty one stands where a comma has none before it.
 fn words(text: &str) -> Vec<(usize, &str)> {
     let mut all = Vec::new();
@@ -118,37 +119,4 @@ fn words(text: &str) -> Vec<(usize, &str)> {
         }
     }
     all
-}
-
-/// The one sample that has this serial number.
-fn sample(s: &Samples, word: &str) -> Result<usize, String> {
-    if word.is_empty() {
-        return Err("a comma has no serial number before it".to_string());
-    }
-    if !word.bytes().all(|byte| byte.is_ascii_digit()) {
-        return Err(format!(
-            "'{}' is not a serial number, which is a whole number",
-            word
-        ));
-    }
-    let serial: Option<u64> = word.parse().ok();
-    let found: Vec<usize> = (0..s.serials.len())
-        .filter(|k| Some(s.serials[*k]) == serial)
-        .collect();
-    match found[..] {
-        [] => Err(format!(
-            "no sample of {} has the serial number {}",
-            s.path, word
-        )),
-        [k] => Ok(k),
-        _ => {
-            // Only a text can give a serial number twice.
-            let places: Vec<String> = found.iter().map(|k| s.place(*k, 0)).collect();
-            Err(format!(
-                "the serial number {} is that of several samples: {}",
-                word,
-                places.join(", ")
-            ))
-        }
-    }
 }

@@ -11,6 +11,8 @@ pub enum Trouble {
     File(String),
     /// Something can't be written. Status 4.
     Write(String),
+    /// A trail isn't what the library answers, which is a fault of the program. Status 5.
+    Differs(String),
     /// The library refuses: the place and the refusal. Status 10 and the refusal's number.
     Refused(String, Refusal),
     /// A check found faults, and has told them. The status is that of the first, which is this.
@@ -34,6 +36,7 @@ impl Trouble {
             Trouble::Usage(_) => 2,
             Trouble::File(_) => 3,
             Trouble::Write(_) => 4,
+            Trouble::Differs(_) => 5,
             Trouble::Refused(_, refusal) => 10 + refusal.number().min(200) as u8,
             Trouble::Faults(status) => *status,
         }
@@ -44,7 +47,9 @@ impl fmt::Display for Trouble {
     fn fmt(&self, f: &mut fmt::Formatter<'_>) -> fmt::Result {
         match self {
             Trouble::Usage(text) => write!(f, "{} (see altuliscia --help)", text),
-            Trouble::File(text) | Trouble::Write(text) => write!(f, "{}", text),
+            Trouble::File(text) | Trouble::Write(text) | Trouble::Differs(text) => {
+                write!(f, "{}", text)
+            }
             Trouble::Refused(place, refusal) => write!(f, "{}: {}", place, refusal),
             Trouble::Faults(_) => write!(f, "this problem would be refused"),
         }

@@ -1,9 +1,11 @@
 //! The command line over small files.
 mod common;
+mod over;
 
 use captions::Figures;
 use command::run;
 use common::{both, file, folder, own, told, SMALL};
+use over::OVER;
 use std::fs;
 use std::process::Command;
 
@@ -144,20 +146,6 @@ fn weights_that_are_nan_are_listed_and_not_counted() {
     let listed = fs::read_to_string(&model).unwrap();
     assert!(listed.ends_with("SV\ninf 0:1\nnan 0:2\n-inf 0:3\nnan 0:4\n"));
 }
-
-/// A problem that has a weight above its ceiling where the second class has twice the cost of the first.
-const OVER: &str = "\
-1 0:1 1:8 2:-2 3:4 4:-2 5:6 6:12 7:12 8:4 9:6 10:-2
--1 0:2 1:-2 2:13 3:14 4:8 5:-14 6:-8 7:2 8:14 9:6 10:-17
--1 0:3 1:4 2:14 3:20 4:8 5:-12 6:0 7:12 8:20 9:12 10:-22
-1 0:4 1:-2 2:8 3:8 4:5 5:-9 6:-6 7:0 8:8 9:3 10:-10
--1 0:5 1:6 2:-14 3:-12 4:-9 5:17 6:14 7:4 8:-12 9:-3 10:16
--1 0:6 1:12 2:-8 3:0 4:-6 5:14 6:20 7:16 8:0 9:6 10:4
-1 0:7 1:12 2:2 3:12 4:0 5:4 6:16 7:20 8:12 9:12 10:-10
-1 0:8 1:4 2:14 3:20 4:8 5:-12 6:0 7:12 8:20 9:12 10:-22
--1 0:9 1:6 2:6 3:12 4:3 5:-3 6:6 7:12 8:12 9:9 10:-12
--1 0:10 1:-2 2:-17 3:-22 4:-10 5:16 6:4 7:-10 8:-22 9:-12 10:25
-";
 
 #[test]
 fn a_weight_above_its_ceiling_is_told() {
@@ -586,6 +574,7 @@ fn help_is_there_for_all() {
         "train --help",
         "weights FILE --help",
         "check --help -c",
+        "trail --help",
     ] {
         let text = told(line, "", "").unwrap();
         assert!(

@@ -1,6 +1,6 @@
 //! One call of a C function: what is lent to it, what must come, and where the two part.
 #[path = "../../../host/altuliscia/src/functions.rs"]
-mod functions;
+pub mod functions;
 
 use crate::lent::{flag, resize, Lent};
 use functions::{

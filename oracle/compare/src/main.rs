@@ -5,6 +5,7 @@ mod captioned;
 mod faint;
 mod lent;
 mod made;
+mod pair;
 mod reached;
 mod recorded;
 mod retired;
@@ -24,6 +25,9 @@ compare retired FIRST LAST
     function where nobody is retired: the same bytes must be written
 compare faint FIRST LAST
     all five C functions on problems with weights near the support limit, likewise
+compare pair FIRST LAST
+    the C function of a single step, on each step of the problems of the seeds FIRST to LAST, drawn as for c and as for faint, and on
+    chosen numbers: the two weights, every other byte, and lists that are too short
 compare recorded FILE
     the proved run by itself, on the recorded general problems: order and weights by position, rho, r, obj, iterations, reason,
     refusal 11, and after each pass that is recorded the weights of its pair; and the C function on those with retired samples
@@ -44,6 +48,7 @@ fn main() -> ExitCode {
         ["faint", first, last] => {
             both(first, last).map(|(first, last)| faint::compare(first, last))
         }
+        ["pair", first, last] => both(first, last).map(|(first, last)| pair::compare(first, last)),
         ["recorded", file] => recorded::compare(file),
         ["captions", ..] => captioned::compare(&words[1..]),
         [seed, count] => both(seed, count).map(|(seed, count)| trial::compare(seed, count)),

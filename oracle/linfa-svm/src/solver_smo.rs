@@ -5,6 +5,7 @@ use ndarray::{Array1, Array2, ArrayView2, Axis};
 #[cfg(feature = "serde")]
 use serde_crate::{Deserialize, Serialize};
 use std::marker::PhantomData;
+pub mod chosen; // oracle
 
 /// Parameters of the solver routine
 #[derive(Clone, Debug, PartialEq)]
@@ -253,6 +254,7 @@ impl<'a, F: Float, K: 'a + Permutable<F>> SolverState<'a, F, K> {
 
         let old_alpha_i = self.alpha[i].val();
         let old_alpha_j = self.alpha[j].val();
+        crate::watch::given([[old_alpha_i, old_alpha_j], [bound_i, bound_j], [self.gradient[i], self.gradient[j]], [self.kernel.self_distance(i), self.kernel.self_distance(j)]], dist_i[j], self.targets[i] == self.targets[j]); // oracle
 
         if self.targets[i] != self.targets[j] {
             let mut quad_coef = self.kernel.self_distance(i)

@@ -4,11 +4,40 @@
 use crate::Float;
 use std::cell::RefCell;
 
-/// One pass: the pair chosen, by position, and the two weights left.
+/// What a step is made of. Of two numbers the first is i's.
+#[derive(Clone, Copy, Debug, Default, PartialEq)]
+pub struct Given {
+    pub weights: [f64; 2],
+    /// Those of the two places, which the step clips by.
+    pub ceilings: [f64; 2],
+    pub gradients: [f64; 2],
+    pub diagonals: [f64; 2],
+    /// Row i at j: the kernel's entry, negated between different labels.
+    pub entry: f64,
+    /// Whether the labels agree.
+    pub agree: bool,
+}
+
+impl Given {
+    /// What a step is divided by, before anything stands in for it. Draws and
+    /// marks ask; the solver has its own.
+    pub fn curvature(&self) -> f64 {
+        let diagonals = self.diagonals[0] + self.diagonals[1];
+        if self.agree {
+            diagonals - 2.0 * self.entry
+        } else {
+            diagonals + 2.0 * self.entry
+        }
+    }
+}
+
+/// One pass: the pair chosen, by position, what its step was made of, and the
+/// two weights left.
 #[derive(Clone, Copy, Debug, PartialEq)]
 pub struct Step {
     pub i: usize,
     pub j: usize,
+    pub given: Given,
     pub weight_i: f64,
     pub weight_j: f64,
 }
@@ -61,6 +90,8 @@ pub struct Seen {
     pub linear: Vec<f64>,
     /// The label at each position, at the end.
     pub labels: Vec<bool>,
+    /// Of the last step, where a trace is kept.
+    given: Given,
     keep_trace: bool,
 }
 
@@ -132,12 +163,29 @@ pub fn second_look(optimal: bool) {
     });
 }
 
+pub fn given<F: Float>(pairs: [[F; 2]; 4], entry: F, agree: bool) {
+    note(|s| {
+        if s.keep_trace {
+            let [weights, ceilings, gradients, diagonals] = pairs.map(|p| p.map(F::into));
+            s.given = Given {
+                weights,
+                ceilings,
+                gradients,
+                diagonals,
+                entry: entry.into(),
+                agree,
+            };
+        }
+    });
+}
+
 pub fn step<F: Float>(i: usize, j: usize, weight_i: F, weight_j: F) {
     note(|s| {
         if s.keep_trace {
             s.trace.push(Step {
                 i,
                 j,
+                given: s.given,
                 weight_i: weight_i.into(),
                 weight_j: weight_j.into(),
             });

@@ -1,0 +1,4 @@
+pub mod Box
+pub mod Doubles
+pub mod Once
+pub mod Worked
