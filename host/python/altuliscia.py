@@ -109,13 +109,13 @@ class Fit:
     retired_ has the numbers of the retired samples, in their order; their weight is 0.
     """
 
-    def __init__(self, home, crate_reading, rho, r, obj, iterations, reason, support, retired=()):
+    def __init__(self, home, crate_reading, rho, r, obj, iterations, reason, retired=(), support=None):
         self.home = home
         self.crate_reading = crate_reading
         self.rho = rho
         self.r = r
         self.obj = obj
-        self.support_count = support
+        self.support_count = sum(abs(weight) > SUPPORT_LIMIT for weight in home) if support is None else support
         self.retired_ = list(retired)
         self.support_ = [k for k, weight in enumerate(home) if weight != 0.0]
         self.dual_coef_ = [[home[k] for k in self.support_]]
@@ -165,7 +165,7 @@ def fit_c(matrix, labels, cpos=1.0, cneg=1.0, *, eps=1e-7, shrinking=False, budg
     ceilings = [cpos if mark else cneg for mark in marks]
     lent += (_doubles(ceilings), _doubles([0.0] * n), _doubles([-1.0] * n))
     home, crate_reading, *rest = _without(gone, n, lent, False, eps, shrinking, budget)
-    return Fit(_signed(home, marks, gone), _signed(crate_reading, marks, gone), *rest, sorted(gone))
+    return Fit(_signed(home, marks, gone), _signed(crate_reading, marks, gone), *rest)
 
 
 def fit_nu(matrix, labels, nu=0.5, *, eps=1e-7, shrinking=False, budget=MOST_PASSES):
@@ -193,11 +193,11 @@ def fit_general(matrix, labels, ceilings, alphas, linear, *, nu_rule=False, eps=
     lent = (_matrix(matrix, n), marks, _doubles(ceilings), _doubles(alphas), _doubles(linear))
     if not gone:
         return Fit(*_called("altuliscia_general", n, lent, (_flag(nu_rule),), eps, shrinking, budget))
-    return Fit(*_without(gone, n, lent, nu_rule, eps, shrinking, budget), sorted(gone))
+    return Fit(*_without(gone, n, lent, nu_rule, eps, shrinking, budget))
 
 
 Before = namedtuple("Before", "weight ceiling gradient diagonal")
-Before.__doc__ = """What a step finds of one of its two samples: its weight, without sign and not divided, the most that it may be, its
+Before.__doc__ = """What a step finds of one of its two samples: its weight, without sign and not divided, its ceiling, its
 gradient, and the kernel value of the sample with itself."""
 
 
@@ -226,7 +226,7 @@ def find_pair(i, j, entry, agree):
 def _without(gone, n, lent, nu_rule, eps, shrinking, budget):
     """As the general fit, without the samples in `gone`. The tuning is empty."""
     marks = bytes(k in gone for k in range(n))
-    return _called("altuliscia_retired", n, (*lent, marks), (_flag(nu_rule),), eps, shrinking, budget, (b"",))
+    return _called("altuliscia_retired", n, (*lent, marks), (_flag(nu_rule),), eps, shrinking, budget, (b"",), gone)
 
 
 def _signed(weights, marks, gone):
@@ -339,8 +339,9 @@ def _slices(lists):
     return [part for data in lists for part in (ctypes.c_char_p(data), ctypes.c_size_t(len(data)))]
 
 
-def _called(name, n, lent, given, eps, shrinking, budget, late=()):
-    """Calls a C function, which takes the lists `late` after the budget, and returns what a Fit is made of."""
+def _called(name, n, lent, given, eps, shrinking, budget, late=(), gone=()):
+    """Calls a C function, which takes the lists `late` after the budget and has the samples in `gone` retired, and returns what a
+    Fit is made of."""
     # What doesn't fit 64 bits is lent as 0, which is refused as it would be.
     budget = operator.index(budget)
     budget = budget if 0 <= budget < 1 << 64 else 0
@@ -358,7 +359,7 @@ def _called(name, n, lent, given, eps, shrinking, budget, late=()):
     if refusal:
         raise Refusal(refusal, index)
     home, crate_reading = (list(struct.unpack(f"<{n}d", buffer.raw)) for buffer in (written[1], written[0]))
-    return home, crate_reading, rho, r if has_r else None, obj, iterations, reason, support
+    return home, crate_reading, rho, r if has_r else None, obj, iterations, reason, sorted(gone), support
 
 
 _loaded = None

@@ -80,6 +80,9 @@ class Worked(unittest.TestCase):
         # One that counts beside three that don't; the decision takes all.
         fit = fit_c(identity(4), [1, 0, 0, 0], 1.0, 1e-14)
         self.assertEqual((fit.support_, fit.support_count), ([0, 1, 2, 3], 1))
+        # One that is made without the count, as before there was one, counts by the same rule.
+        made = Fit([limit, -1.0, math.nan, 0.0, -math.inf], [0.0] * 5, 0.0, None, 0.0, 1, 0, [3])
+        self.assertEqual((made.support_count, made.retired_), (2, [3]))
         fit = fit_nu(IDENTITY, [1, 1])
         self.assertTrue(all(math.isnan(weight) for weight in fit.home))
         self.assertEqual((fit.support_, fit.support_count), ([0, 1], 0))
@@ -289,8 +292,8 @@ def put_back(fit, n, gone):
     def spread(weights):
         left = iter(weights)
         return [0.0 if k in gone else next(left) for k in range(n)]
-    numbers = (fit.rho, fit.r, fit.obj, fit.n_iter_[0], fit.fit_status_, fit.support_count)
-    return Fit(spread(fit.home), spread(fit.crate_reading), *numbers, sorted(gone))
+    numbers = (fit.rho, fit.r, fit.obj, fit.n_iter_[0], fit.fit_status_)
+    return Fit(spread(fit.home), spread(fit.crate_reading), *numbers, sorted(gone), fit.support_count)
 
 
 class Retired(Refused):

@@ -1,32 +1,25 @@
 -- With shrinking off the order stays as it was, all n positions stay active, and no run is refused. Assumes nothing.
-use Prim.Native.Nat.{ℕ, zero, suc, _-_}
-use mathlib.Core.Bool.{Bool, true, false, _&&_, cond, true≢false}
+use Prim.Native.Nat.{ℕ, zero, suc}
+use mathlib.Core.Bool.{Bool, true, false}
 use mathlib.Core.List.{List}
-use mathlib.Core.Path.{_≡_, refl}
-use lib.Dec.{eqb, ltb}
+use mathlib.Core.Path.{_≡_, refl, ap, _∙_}
 use lib.Ieee.{Float}
 use Rattle.answer.specs.Solved.{stuck}
 use Rattle.extreme.specs.declared.Choice.{Choice}
 use Rattle.extreme.specs.declared.Choice.the-variants.{Pair, Optimal}
-use Rattle.solver.specs.End.{activeAt, closed, trained}
-use Rattle.solver.specs.Pass.{chosen, rebuilt, shrunk, countedDown, stepped, looked, workedBy, onward, passed, next, runs}
-use Rattle.solver.specs.Run.{Full, withRun, goes, counterAt, period}
+use Rattle.solver.specs.End.{closed, trained}
+use Rattle.solver.specs.Pass.{chosen, rebuilt, countedDown, stepped, looked, workedBy, onward, passed, next, runs}
+use Rattle.solver.specs.Run.{Full, withRun, goes, counterAt}
 use Rattle.solver.specs.declared.Given.{Given}
 use Rattle.state.specs.Lists.{State}
+use Rattle.trace.proofs.Off.{closed-off, counted-off}
 use Rattle.classification.specs.Still.{Still}
 
 module _ (g : Given) (m : List ℕ) (b : List Float) (off : g .shrinking ≡ false) (u : List ℕ) where
   counted-still : (w : Full) → Still u (g .n) w → Still u (g .n) (countedDown g m w)
-  unfolding countedDown
-  counted-still w s = go (ltb 0 (w .run .counter - 1)) (g .shrinking) off
-    where
-      v : Full
-      v = withRun w (counterAt (w .run) (period (g .n)))
-
-      go : (x y : Bool) → y ≡ false → Still u (g .n) (cond x (withRun w (counterAt (w .run) (w .run .counter - 1))) (cond y (shrunk g m v) v))
-      go true y e = record { order = s .order; active = s .active; free = s .free }
-      go false true e = absurd (true≢false e)
-      go false false e = record { order = s .order; active = s .active; free = s .free }
+  counted-still w s =
+      let c = counted-off g m off w in
+      record { order = ap (λ (z : State). z .numbers) (c .state) ∙ s .order; active = c .active ∙ s .active; free = ap stuck (c .status) ∙ s .free }
 
   stepped-still : (w : Full) (i j : ℕ) → Still u (g .n) w → Still u (g .n) (stepped g m b w i j)
   unfolding stepped
@@ -62,12 +55,7 @@ module _ (g : Given) (m : List ℕ) (b : List Float) (off : g .shrinking ≡ fal
   runs-still w (suc t) s = next-still (goes (runs g m b w t .run .status)) (runs g m b w t) (runs-still w t s)
 
   closed-still : (budget : ℕ) (w : Full) → Still u (g .n) w → Still u (g .n) (closed g m budget w)
-  unfolding closed
-  closed-still budget w s = go (eqb (w .run .iterations) budget && ltb (w .run .active) (g .n))
-    where
-      go : (x : Bool) → Still u (g .n) (cond x (withRun (rebuilt g m w) (activeAt (w .run) (g .n))) w)
-      go true = let r = rebuilt-still w s in record { order = r .order; active = refl; free = s .free }
-      go false = s
+  closed-still budget w s = rw (closed-off g m budget w (s .active)) s
 
   pub trained-still : (budget : ℕ) (s : State) → s .numbers ≡ u → Still u (g .n) (trained g m b budget s)
   unfolding trained stuck

@@ -11,7 +11,7 @@ use Rattle.answer.specs.Lent.{Whole}
 use Rattle.hosted.specs.Hosted.{room, Handed}
 use Rattle.promises.specs.Fit.{Fit}
 use Rattle.promises.proofs.Home.{served-home}
-use Rattle.promises.proofs.Trail.{run-begins, steps-begin, served-weights, served-shown}
+use Rattle.promises.proofs.Trail.{run-begins, steps-begin, served-begins, served-weights, served-shown}
 use Rattle.handed.specs.Gives.{Gives}
 use Rattle.handed.specs.Trail.{TrailedBytes}
 use Rattle.handed.specs.Trains.{generalTrains, cTrains, nuTrains, oneClassTrains}
@@ -21,6 +21,7 @@ use Rattle.handed.proofs.Threshold.{ran-iterations}
 trailed : {k : Fit} {m cr h an : List ℕ} {budget : ℕ} {w : Whole} {o : Handed} → Ran k m cr h an budget w o → Gives k m budget o
     → k .given .shrinking ≡ false → k .given .floor ≡ floor → TrailedBytes k m budget o
 trailed {k = k} {m = m} {budget = budget} r v off plain = record {
+  begins = served-begins (r .served) off;
   weights = λ s h.
       v .home s h
       ∙ ap (toBits binary64) (sym (served-home (r .served) (r .out .answer) (r .out .accepted) s h) ∙ served-weights (r .served) off (r .out .answer) (r .out .accepted) s h);

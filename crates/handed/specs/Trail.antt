@@ -3,7 +3,7 @@ use Prim.Native.Nat.{ℕ, _+_, _*_, _<_}
 use mathlib.Core.Bool.{Bool}
 use mathlib.Core.List.{List, _++_}
 use mathlib.Core.Path.{_≡_}
-use lib.Ieee.{Float, binary64, toBits}
+use lib.Ieee.{Float, nan, binary64, toBits}
 use lib.ListN.{getD}
 use Rattle.alpha.specs.Weight.{weight}
 use Rattle.altuliscia.specs.Functions.{isOn, asFloat, PairHanded}
@@ -19,6 +19,8 @@ use Rattle.wire.specs.Wire.{digits}
 
 -- of the fit k over the matrix m
 pub record TrailedBytes (k : Fit) (m : List ℕ) (budget : ℕ) (o : Handed) : Type 0 where
+  -- the run starts at the start weights
+  pub begins : (s : ℕ) → s < k .given .n → weightAfter k m room 0 s ≡ getD (k .weights) s nan
   -- home at place s: sample s's weight after as many passes as the budget has, as the entry answers it
   pub weights : (s : ℕ) → s < k .given .n
       → digits (o .home) (8 * s) 8 ≡ toBits binary64 (coefficientOf (k .how) (labelLent k m room s) (rOf k m room budget) (weightAfter k m room budget s))

@@ -206,7 +206,7 @@ module _ {k : Fit} {m : List ℕ} {budget : ℕ} {d : Lent} {o : Whole} (v : Ser
       (home-own v x e off s h
       ∙ ap (λ (z : Full). weightIn (g .n) (z .state .floats) s) (closed-off g m budget (after k m d budget) (still budget .active)))
 
-  served-begins : (s : ℕ) → s < g .n → weightAfter k m d 0 s ≡ getD (k .weights) s nan
+  pub served-begins : (s : ℕ) → s < g .n → weightAfter k m d 0 s ≡ getD (k .weights) s nan
   unfolding runs
   served-begins s h =
       same-started p (k .ceilings) (startFrom k m d) .at (2 * g .n + s) (omega arith) (omega arith)

@@ -81,6 +81,7 @@ module _ (k : Fit) (m : List ℕ) (d : Lent) where
 
   -- what a call with that budget tells with shrinking off, by its iterations and its list home
   pub record Trailed (budget iterations : ℕ) (home : List Float) : Type 0 where
+    -- the run starts at the start weights
     pub begins : (s : ℕ) → s < k .given .n → weightAfter k m d 0 s ≡ getD (k .weights) s nan
     -- each sample's weight after as many passes, as the entry answers it
     pub weights : (s : ℕ) → s < k .given .n → getD home s nan ≡ coefficientOf (k .how) (labelLent s) (rOf k m d budget) (weightAfter k m d budget s)
