@@ -11,3 +11,4 @@ pub mod Lent
 pub mod Equal
 pub mod Stop
 pub mod Unique
+pub mod Labels
