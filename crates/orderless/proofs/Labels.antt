@@ -33,7 +33,7 @@ use Rattle.orderless.specs.Step.{shiftIn, slope, pairFor, change, stepsB
 
 -- ---- what is written as functions say
 
-shift-alike : (nu : Bool) (n : ℕ) (d e : ℕ → Float) (f : List Float) → ((k : ℕ) → d k ≡ e k) → (c : ℕ) → shiftIn nu n d f c ≡ shiftIn nu n e f c
+pub shift-alike : (nu : Bool) (n : ℕ) (d e : ℕ → Float) (f : List Float) → ((k : ℕ) → d k ≡ e k) → (c : ℕ) → shiftIn nu n d f c ≡ shiftIn nu n e f c
 unfolding shiftIn
 shift-alike nu n d e f h zero = refl
 shift-alike nu n d e f h (suc c) = rw (shift-alike nu n d e f h c, h c)

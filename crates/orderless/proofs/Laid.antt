@@ -53,6 +53,9 @@ module _ (n : ℕ) (f : List Float) (k : ℕ) (K : k < n) (a d u : Float) (long 
   three-up q Q (yes z) = rw z (getD-set-same (set (set f (n + k) a) (3 * n + k) d) k u nan (simp length-set (omega arith)))
   three-up q Q (no z) = past h2 k q u z ∙ past h1 (3 * n + k) q d (λ e. omega arith) ∙ past f (n + k) q a (λ e. omega arith)
 
+  three-diagonal : (q : ℕ) → q < n → getD three (2 * n + q) nan ≡ getD f (2 * n + q) nan
+  three-diagonal q Q = past h2 k (2 * n + q) u (λ e. omega arith) ∙ past h1 (3 * n + k) (2 * n + q) d (λ e. omega arith) ∙ past f (n + k) (2 * n + q) a (λ e. omega arith)
+
   three-behind : (q : ℕ) → 4 * n ≤ q → getD three q nan ≡ getD f q nan
   three-behind q Q = past h2 k q u (λ e. omega arith) ∙ past h1 (3 * n + k) q d (λ e. omega arith) ∙ past f (n + k) q a (λ e. omega arith)
 
@@ -78,6 +81,12 @@ module _ (n : ℕ) (f : List Float) (k : ℕ) (K : k < n) (pos : Bool) (w : Alph
   unfolding putIn
   put-down true long q Q z = past (laid true) (4 * n + k) (3 * n + q) _ (λ e. omega arith) ∙ three-down n f k K _ _ _ (omega arith) q Q z
   put-down false long q Q z = three-down n f k K _ _ _ (omega arith) q Q z
+
+  -- the diagonal's field
+  pub put-diagonal : (nu : Bool) → sized nu n ≤ length f → (q : ℕ) → q < n → getD (putIn nu n f k pos w v) (2 * n + q) nan ≡ getD f (2 * n + q) nan
+  unfolding putIn
+  put-diagonal true long q Q = past (laid true) (4 * n + k) (2 * n + q) _ (λ e. omega arith) ∙ three-diagonal n f k K _ _ _ (omega arith) q Q
+  put-diagonal false long q Q = three-diagonal n f k K _ _ _ (omega arith) q Q
 
   pub put-up : (nu : Bool) → sized nu n ≤ length f → (t : Bool) (q : ℕ) → q < n → (z : Dec (q ≡ k))
       → getD (putIn nu n f k pos w v) (upField nu n t + q) nan ≡ one z (upPut nu t pos w v) (getD f (upField nu n t + q) nan)
@@ -105,6 +114,11 @@ module _ (n : ℕ) (f : List Float) (k : ℕ) (K : k < n) (x : Float) where
   unfolding raisedIn
   raised-weight true q Q = past r2 (4 * n + k) (n + q) _ (λ e. omega arith) ∙ past r1 (3 * n + k) (n + q) _ (λ e. omega arith) ∙ past f k (n + q) _ (λ e. omega arith)
   raised-weight false q Q = past r1 (3 * n + k) (n + q) _ (λ e. omega arith) ∙ past f k (n + q) _ (λ e. omega arith)
+
+  raised-diagonal : (nu : Bool) (q : ℕ) → q < n → getD (raisedIn nu n f k x) (2 * n + q) nan ≡ getD f (2 * n + q) nan
+  unfolding raisedIn
+  raised-diagonal true q Q = past r2 (4 * n + k) (2 * n + q) _ (λ e. omega arith) ∙ past r1 (3 * n + k) (2 * n + q) _ (λ e. omega arith) ∙ past f k (2 * n + q) _ (λ e. omega arith)
+  raised-diagonal false q Q = past r1 (3 * n + k) (2 * n + q) _ (λ e. omega arith) ∙ past f k (2 * n + q) _ (λ e. omega arith)
 
   -- a field that begins at c: its place k is raised, its others stay
   pub record Lifted (nu : Bool) (c : ℕ) : Type 0 where
@@ -148,6 +162,11 @@ module _ (nu : Bool) (n : ℕ) (d : ℕ → Float) (f : List Float) (long : size
   unfolding shiftIn
   shift-weight zero h q Q = refl
   shift-weight (suc c) h q Q = raised-weight n (shiftIn nu n d f c) c (omega arith) (d c) nu q Q ∙ shift-weight c (omega arith) q Q
+
+  pub shift-diagonal : (c : ℕ) → c ≤ n → (q : ℕ) → q < n → getD (shiftIn nu n d f c) (2 * n + q) nan ≡ getD f (2 * n + q) nan
+  unfolding shiftIn
+  shift-diagonal zero h q Q = refl
+  shift-diagonal (suc c) h q Q = raised-diagonal n (shiftIn nu n d f c) c (omega arith) (d c) nu q Q ∙ shift-diagonal c (omega arith) q Q
 
   module _ (at : ℕ) (lifts : (h : List Float) (k : ℕ) (K : k < n) → sized nu n ≤ length h → Lifted n h k K (d k) nu at) where
     held-back : (c : ℕ) → c ≤ n → (q : ℕ) → q < n → c ≤ q → getD (shiftIn nu n d f c) (at + q) nan ≡ getD f (at + q) nan

@@ -11,7 +11,7 @@ use lib.IntN.{ℤ, pos}
 use lib.Ieee.{Float, nan, inf, fin, binary64, low, fits, isNan, ofBits, up, down, round, sum, neg, add, lt, eq, le, below, level}
 use lib.Ieee.Fits.{up-pos, down-pos, add-fits}
 use lib.Ieee.Scale.{round-same}
-use borrow.Author.Tests.{lt-ltb, le-ltb}
+use borrow.Author.Tests.{lt-ltb, le-ltb, eq-eqb}
 use Rattle.alpha.specs.Weight as Weight
 use Rattle.rounding.proofs.Order.{eq-le}
 use Rattle.rounding.proofs.Rounding.{round-neg, round-parts, rounded-pos}
@@ -219,6 +219,12 @@ eq-right x (fin s (suc m) e) = refl
 eq-right nan (fin t zero d) = refl
 eq-right (inf s) (fin t zero d) = refl
 eq-right (fin s m e) (fin t zero d) = level-right s t (m * up e * down d) (0 * up d * down e) (omega arith)
+
+pub zero-even : (s : Bool) (e : ℤ) → eq (fin s 0 e) Weight.zero ≡ true
+unfolding eq ofBits
+zero-even s e =
+    level-left s false (0 * up e * down (pos 0)) (0 * up (pos 0) * down e) (omega arith)
+    ∙ rw (eq-eqb (0 * up e * down (pos 0)) (0 * up (pos 0) * down e) (omega arith))
 
 module _ (x x' y y' : Float) (h : plain x ≡ plain x') (k : plain y ≡ plain y') where
   pub lt-level : lt x y ≡ lt x' y'

@@ -44,6 +44,10 @@ entry g m i k = entryAt (g .side) m i k
 abbrev pub sought : Bool → Bool → Bool → Bool
 sought nu t pos = cond nu (ofLabel t pos) true
 
+-- cpos is the ceiling of the positives, cneg that of the negatives
+abbrev pub ceilingsOf : Float → Float → Bool → Float
+ceilingsOf cpos cneg t = cond t cpos cneg
+
 -- y are the labels, top the ceiling of each label
 module _ (y : List ℕ) (top : Bool → Float) where
   -- the weight of sample k under the ceiling of its label
