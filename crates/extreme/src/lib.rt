@@ -71,13 +71,13 @@ pub fn lifted(b: Extreme, may: bool, k: usize, v: f64) -> Extreme
     }
 }
 
-fn value_of(better: bool, v: f64, b: f64) -> f64
+pub fn value_of(better: bool, v: f64, b: f64) -> f64
     ensures { λ r. ⌜ r ≡ cond better v b ⌝ }
 {
     if better { v } else { b }
 }
 
-fn place_of(better: bool, k: usize, at: usize) -> usize
+pub fn place_of(better: bool, k: usize, at: usize) -> usize
     ensures { λ r. ⌜ r ≡ cond better k at ⌝ }
 {
     if better { k } else { at }

@@ -204,8 +204,7 @@ one-last (yes z) x a b c e h = refl
 one-last (no z) (yes x) a b c e h = h
 one-last (no z) (no x) a b c e h = h
 
-module _ (g : Given) (m u y : List ℕ) (top : Bool → Float) (b : List Float) (C : Lent g m u y top b) (term : ℕ → Float) (f l : List Float)
-    (M : Mirrors g m u y top term f (readIn (g .nu) (g .n) l)) (long : sized (g .nu) (g .n) ≤ length l) (i j : ℕ) (I : i < g .n) (J : j < g .n) where
+module _ (g : Given) (m y : List ℕ) (top : Bool → Float) (l : List Float) (long : sized (g .nu) (g .n) ≤ length l) (i j : ℕ) (I : i < g .n) (J : j < g .n) where
   abbrev nu : Bool
   nu = g .nu
 
@@ -245,19 +244,26 @@ module _ (g : Given) (m u y : List ℕ) (top : Bool → Float) (b : List Float) 
   length-steps =
       length-shift nu n d l2 long2 n (omega arith) ∙ length-put n l1 j J (positiveIn y j) wj (own y top o j) nu ∙ length-put n l i I (positiveIn y i) wi (own y top o i) nu
 
-  steps-moved : Moved g m u y top b C term f o M i j I J (readIn nu n (steps g m y top l i j))
+  pub steps-diagonal : (k : ℕ) → k < n → getD (steps g m y top l i j) (2 * n + k) nan ≡ getD l (2 * n + k) nan
   unfolding stepsBy
-  steps-moved = record {
-    ups = λ t k K z x. shift-up nu n d l2 long2 t k K ∙ ap (λ (v : Float). add binary64 v (d k))
-        (put-up n l1 j J (positiveIn y j) wj (own y top o j) nu long1 t k K z
-        ∙ one-last z x _ _ _ _ (put-up n l i I (positiveIn y i) wi (own y top o i) nu long t k K x));
-    downs = λ k K z x. shift-down nu n d l2 long2 k K ∙ ap (λ (v : Float). add binary64 v (d k))
-        (put-down n l1 j J (positiveIn y j) wj (own y top o j) nu long1 k K z
-        ∙ one-last z x _ _ _ _ (put-down n l i I (positiveIn y i) wi (own y top o i) nu long k K x));
-    weights = λ k K z x. shift-weight nu n d l2 long2 n (omega arith) k K
-        ∙ put-weight n l1 j J (positiveIn y j) wj (own y top o j) nu long1 k K z
-        ∙ one-last z x _ _ _ _ (put-weight n l i I (positiveIn y i) wi (own y top o i) nu long k K x);
-  }
+  steps-diagonal k K =
+      shift-diagonal nu n d l2 long2 n (omega arith) k K ∙ put-diagonal n l1 j J (positiveIn y j) wj (own y top o j) nu long1 k K
+      ∙ put-diagonal n l i I (positiveIn y i) wi (own y top o i) nu long k K
 
-  pub steps-mirror : Mirrors g m u y top term (updated (problemOf g m) b (g .floor) (state f u y) i j n) (readIn nu n (steps g m y top l i j))
-  steps-mirror = step-mirrors g m u y top b C term f o M i j I J (readIn nu n (steps g m y top l i j)) steps-moved
+  module _ (u : List ℕ) (b : List Float) (C : Lent g m u y top b) (term : ℕ → Float) (f : List Float) (M : Mirrors g m u y top term f o) where
+    steps-moved : Moved g m u y top b C term f o M i j I J (readIn nu n (steps g m y top l i j))
+    unfolding stepsBy
+    steps-moved = record {
+      ups = λ t k K z x. shift-up nu n d l2 long2 t k K ∙ ap (λ (v : Float). add binary64 v (d k))
+          (put-up n l1 j J (positiveIn y j) wj (own y top o j) nu long1 t k K z
+          ∙ one-last z x _ _ _ _ (put-up n l i I (positiveIn y i) wi (own y top o i) nu long t k K x));
+      downs = λ k K z x. shift-down nu n d l2 long2 k K ∙ ap (λ (v : Float). add binary64 v (d k))
+          (put-down n l1 j J (positiveIn y j) wj (own y top o j) nu long1 k K z
+          ∙ one-last z x _ _ _ _ (put-down n l i I (positiveIn y i) wi (own y top o i) nu long k K x));
+      weights = λ k K z x. shift-weight nu n d l2 long2 n (omega arith) k K
+          ∙ put-weight n l1 j J (positiveIn y j) wj (own y top o j) nu long1 k K z
+          ∙ one-last z x _ _ _ _ (put-weight n l i I (positiveIn y i) wi (own y top o i) nu long k K x);
+    }
+
+    pub steps-mirror : Mirrors g m u y top term (updated (problemOf g m) b (g .floor) (state f u y) i j n) (readIn nu n (steps g m y top l i j))
+    steps-mirror = step-mirrors g m u y top b C term f o M i j I J (readIn nu n (steps g m y top l i j)) steps-moved

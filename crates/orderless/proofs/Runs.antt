@@ -58,8 +58,8 @@ module _ (g : Given) (m u y : List ℕ) (top : Bool → Float) (b : List Float) 
   step-beside w v h B i j I J = record {
     floats = updated p b (g .floor) (state (B .floats) u y) i j (g .n);
     state = rw (B .state, B .active);
-    mirrors = steps-mirror g m u y top b C term (B .floats) (v .floats) (B .mirrors) (B .long) i j I J;
-    long = rw (length-steps g m u y top b C term (B .floats) (v .floats) (B .mirrors) (B .long) i j I J) (B .long);
+    mirrors = steps-mirror g m y top (v .floats) (B .long) i j I J u b C term (B .floats) (B .mirrors);
+    long = rw (length-steps g m y top (v .floats) (B .long) i j I J) (B .long);
     steps = ap (λ (x : ℕ). x + 1) (B .steps);
     status = B .status ∙ rw h;
     active = B .active;

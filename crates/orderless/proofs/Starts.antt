@@ -33,7 +33,7 @@ use Rattle.orderless.proofs.Copies.{Copied}
 use Rattle.orderless.proofs.Plain.{Steady, steady-add, add-level}
 use Rattle.orderless.proofs.Relation.{Lent, Mirrors}
 use Rattle.orderless.proofs.Stepped.{signed-add, signed-mul, copy-put}
-use Rattle.orderless.proofs.Laid.{length-put, put-weight, put-down, put-up}
+use Rattle.orderless.proofs.Laid.{length-put, put-weight, put-diagonal, put-down, put-up}
 
 -- ---- the first places written, and added to
 
@@ -51,17 +51,46 @@ module _ (v : ℕ → Float) (l : List Float) where
   spread-at n k h r = filled-at (spread v l) (λ k. k) (λ k x. v k) (λ k. refl) (λ h k g e. omega arith) n k h (omega arith)
 
   -- v says what is added
-  length-raisedTo : (n : ℕ) → length (raisedTo v l n) ≡ length l
+  pub length-raisedTo : (n : ℕ) → length (raisedTo v l n) ≡ length l
   unfolding raisedTo
   length-raisedTo = filled-length (raisedTo v l) (λ k. k) (λ k x. add binary64 x (v k)) (λ k. refl) (λ h k g e. omega arith)
 
-  raisedTo-other : (n k : ℕ) → n ≤ k → getD (raisedTo v l n) k nan ≡ getD l k nan
+  pub raisedTo-other : (n k : ℕ) → n ≤ k → getD (raisedTo v l n) k nan ≡ getD l k nan
   unfolding raisedTo
   raisedTo-other n k h = filled-other (raisedTo v l) (λ k. k) (λ k x. add binary64 x (v k)) (λ k. refl) (λ h k g e. omega arith) n k (λ i r e. omega arith)
 
   raisedTo-at : (n k : ℕ) → k < n → n ≤ length l → getD (raisedTo v l n) k nan ≡ add binary64 (getD l k nan) (v k)
   unfolding raisedTo
   raisedTo-at n k h r = filled-at (raisedTo v l) (λ k. k) (λ k x. add binary64 x (v k)) (λ k. refl) (λ h k g e. omega arith) n k h (omega arith)
+
+-- ---- what the samples bring to F
+
+module _ (g : Given) (m y : List ℕ) (top : Bool → Float) (term : ℕ → Float) (l : List Float) where
+  abbrev upto : ℕ → List Float
+  upto i = broughtTo g m y top term l i
+
+  -- what sample i with the weight v brings to F of sample k
+  abbrev share : ℕ → Float → ℕ → Float
+  share i v k = mul binary64 (signedOf (positiveIn y i) v) (entry g m i k)
+
+  pub length-brought : (i : ℕ) → length (upto i) ≡ length l
+  unfolding broughtTo
+  length-brought zero = length-spread (λ k. signedOf (positiveIn y k) (term k)) l (g .n)
+  length-brought (suc i) = go (getD (upto i) (g .n + i) nan) (eq (getD (upto i) (g .n + i) nan) Weight.zero) (length-brought i)
+    where
+      go : (v : Float) (x : Bool) → length (upto i) ≡ length l → length (cond x (upto i) (raisedTo (share i v) (upto i) (g .n))) ≡ length l
+      go v true e = e
+      go v false e = length-raisedTo (share i v) (upto i) (g .n) ∙ e
+
+  -- nothing behind F is touched
+  pub brought-other : (i q : ℕ) → g .n ≤ q → getD (upto i) q nan ≡ getD l q nan
+  unfolding broughtTo
+  brought-other zero q h = spread-other (λ k. signedOf (positiveIn y k) (term k)) l (g .n) q h
+  brought-other (suc i) q h = go (getD (upto i) (g .n + i) nan) (eq (getD (upto i) (g .n + i) nan) Weight.zero) (brought-other i q h)
+    where
+      go : (v : Float) (x : Bool) → getD (upto i) q nan ≡ getD l q nan → getD (cond x (upto i) (raisedTo (share i v) (upto i) (g .n))) q nan ≡ getD l q nan
+      go v true e = e
+      go v false e = raisedTo-other (share i v) (upto i) (g .n) q h ∙ e
 
 -- ---- the copies opened
 
@@ -73,13 +102,19 @@ module _ (g : Given) (m y : List ℕ) (top : Bool → Float) (l : List Float) (l
   abbrev done : ℕ → List Float
   done c = openedTo g m y top l c
 
-  length-opened : (c : ℕ) → c ≤ g .n → length (done c) ≡ length l
+  pub length-opened : (c : ℕ) → c ≤ g .n → length (done c) ≡ length l
   unfolding openedTo
   length-opened zero h = refl
   length-opened (suc c) h = length-put (g .n) (done c) c (omega arith) (positiveIn y c) _ _ (g .nu) ∙ length-opened c (omega arith)
 
   room : (c : ℕ) → c ≤ g .n → sized (g .nu) (g .n) ≤ length (done c)
   room c h = rw (length-opened c h) long
+
+  pub opened-diagonal : (c : ℕ) → c ≤ g .n → (q : ℕ) → q < g .n → getD (done c) (2 * g .n + q) nan ≡ getD l (2 * g .n + q) nan
+  unfolding openedTo
+  opened-diagonal zero h q Q = refl
+  opened-diagonal (suc c) h q Q =
+      put-diagonal (g .n) (done c) c (omega arith) (positiveIn y c) _ _ (g .nu) (room c (omega arith)) q Q ∙ opened-diagonal c (omega arith) q Q
 
   opened-weight : (c : ℕ) → c ≤ g .n → (q : ℕ) → q < g .n → getD (done c) (g .n + q) nan ≡ getD l (g .n + q) nan
   unfolding openedTo
@@ -194,25 +229,6 @@ module _ (g : Given) (m u y : List ℕ) (top : Bool → Float) (b : List Float) 
     abbrev sofar : ℕ → List Float
     sofar i = broughtTo g m y top term l i
 
-    length-brought : (i : ℕ) → length (sofar i) ≡ length l
-    unfolding broughtTo
-    length-brought zero = length-spread (λ k. signedOf (positiveIn y k) (term k)) l (g .n)
-    length-brought (suc i) = go (getD (sofar i) (g .n + i) nan) (eq (getD (sofar i) (g .n + i) nan) Weight.zero) (length-brought i)
-      where
-        go : (v : Float) (x : Bool) → length (sofar i) ≡ length l → length (cond x (sofar i) (raisedTo (brings i v) (sofar i) (g .n))) ≡ length l
-        go v true e = e
-        go v false e = length-raisedTo (brings i v) (sofar i) (g .n) ∙ e
-
-    brought-weight : (i q : ℕ) → getD (sofar i) (g .n + q) nan ≡ getD l (g .n + q) nan
-    unfolding broughtTo
-    brought-weight zero q = spread-other (λ k. signedOf (positiveIn y k) (term k)) l (g .n) (g .n + q) (omega arith)
-    brought-weight (suc i) q = go (getD (sofar i) (g .n + i) nan) (eq (getD (sofar i) (g .n + i) nan) Weight.zero) (brought-weight i q)
-      where
-        go : (v : Float) (x : Bool) → getD (sofar i) (g .n + q) nan ≡ getD l (g .n + q) nan
-            → getD (cond x (sofar i) (raisedTo (brings i v) (sofar i) (g .n))) (g .n + q) nan ≡ getD l (g .n + q) nan
-        go v true e = e
-        go v false e = raisedTo-other (brings i v) (sofar i) (g .n) (g .n + q) (omega arith) ∙ e
-
     -- the rule's gradient after the first i
     abbrev term01 : ℕ → ℕ → Float
     term01 i k = mul binary64 (getD l (g .n + i) nan) (signedOf (Bool·beq (positiveIn y i) (positiveIn y k)) (entry g m i k))
@@ -247,14 +263,14 @@ module _ (g : Given) (m u y : List ℕ) (top : Bool → Float) (b : List Float) 
     level-at zero k I K = ap plain (spread-at (λ k. signedOf (positiveIn y k) (term k)) l (g .n) k K roomy) ∙ ap (λ (x : Float). plain (signedOf (positiveIn y k) x)) (sym (first01 k K))
     level-at (suc i) k I K =
         rw (next01 i k (omega arith) K)
-        (go (getD (sofar i) (g .n + i) nan) (brought-weight i i) (level-at i k (omega arith) K))
+        (go (getD (sofar i) (g .n + i) nan) (brought-other g m y top term l i (g .n + i) (omega arith)) (level-at i k (omega arith) K))
       where
         both : (x : Bool) → plain (at10 i k) ≡ plain (signedOf (positiveIn y k) (at01 i k))
             → plain (getD (cond x (sofar i) (raisedTo (brings i (getD l (g .n + i) nan)) (sofar i) (g .n))) k nan)
             ≡ plain (signedOf (positiveIn y k) (cond x (at01 i k) (add binary64 (at01 i k) (term01 i k))))
         both true e = e
         both false e =
-            ap plain (raisedTo-at (brings i (getD l (g .n + i) nan)) (sofar i) (g .n) k K (rw (length-brought i) roomy))
+            ap plain (raisedTo-at (brings i (getD l (g .n + i) nan)) (sofar i) (g .n) k K (rw (length-brought g m y top term l i) roomy))
             ∙ add-level _ _ _ _ e (ap plain (sym (term-is i k))) ∙ sym (signed-add (positiveIn y k) (at01 i k) (term01 i k))
 
         go : (v : Float) → v ≡ getD l (g .n + i) nan → plain (at10 i k) ≡ plain (signedOf (positiveIn y k) (at01 i k))
@@ -269,7 +285,7 @@ module _ (g : Given) (m u y : List ℕ) (top : Bool → Float) (b : List Float) 
       where
         go : (v : Float) (x : Bool) → T (fits binary64 (at10 i k)) → T (fits binary64 (getD (cond x (sofar i) (raisedTo (brings i v) (sofar i) (g .n))) k nan))
         go v true h = h
-        go v false h = rw (raisedTo-at (brings i v) (sofar i) (g .n) k K (rw (length-brought i) roomy)) (add-fits binary64 (at10 i k) (brings i v k))
+        go v false h = rw (raisedTo-at (brings i v) (sofar i) (g .n) k K (rw (length-brought g m y top term l i) roomy)) (add-fits binary64 (at10 i k) (brings i v k))
 
     -- ---- the whole
 
@@ -289,7 +305,7 @@ module _ (g : Given) (m u y : List ℕ) (top : Bool → Float) (b : List Float) 
 
     alpha-begun : (k : ℕ) → k < g .n → alpha p (state f1 u y) k ≡ heavy k
     alpha-begun k K =
-        ap₂ weight (same-started p b s .at (2 * g .n + k) (omega arith) (omega arith) ∙ L .weights k K ∙ sym (brought-weight (g .n) k))
+        ap₂ weight (same-started p b s .at (2 * g .n + k) (omega arith) (omega arith) ∙ L .weights k K ∙ sym (brought-other g m y top term l (g .n) (g .n + k) (omega arith)))
         (same-started p b s .at (3 * g .n + k) (omega arith) (omega arith) ∙ L .uppers k K)
 
     diagonal-begun : (k : ℕ) → k < g .n → getD f1 (5 * g .n + k) nan ≡ entry g m k k
@@ -304,7 +320,7 @@ module _ (g : Given) (m u y : List ℕ) (top : Bool → Float) (b : List Float) 
     open-copied may t k K v e = rw (e, alpha-begun k K) (copy-put (may k (heavy k)) t _ (begun k) (fits-at (g .n) k (omega arith) K) (fall-begun k K))
 
     long-brought : sized (g .nu) (g .n) ≤ length (sofar (g .n))
-    long-brought = rw (length-brought (g .n)) (L .room)
+    long-brought = rw (length-brought g m y top term l (g .n)) (L .room)
 
     abbrev l1 : List Float
     l1 = opened g m y top term l

@@ -3,7 +3,7 @@
 ghost use mathlib.Core.Bool.{true, false, cond};
 ghost use mathlib.Core.Path.{_≡_};
 ghost use Prim.Native.Nat.{_+_, _*_, _≤_, _<_};
-ghost use lib.Dec.{eqb, ltb};
+ghost use lib.Dec.{eqb};
 ghost use lib.Ieee.{binary64, inf, nan, sub, lt};
 ghost use lib.ListN.{length, getD};
 ghost use Rattle.extreme.specs.Best.{atLeast, above, atMost, best};
@@ -11,7 +11,7 @@ ghost use Rattle.extreme.specs.Racing.{below, foundIn, raceOf};
 ghost use Rattle.floats.specs.Helpers.{maxOf};
 ghost use Rattle.orderless.specs.Choice as Sheets;
 ghost use Rattle.orderless.specs.Sheet.{readIn, sought};
-ghost use Rattle.partner.specs.Second.{paired as pairedOf};
+ghost use Rattle.partner.specs.Second.{placeOf, paired as pairedOf};
 ghost use Rattle.picks.specs.Follow.{deepest, firstOf, racedBy};
 ghost use Rattle.sheet.specs.Ready.{SheetReady, Diagonal};
 use extreme::Choice;
@@ -53,12 +53,6 @@ fn seeks(nu: bool, t: bool, pos: bool) -> bool
     if nu { t == pos } else { true }
 }
 
-fn greater(takes: bool, v: f64, b: f64) -> f64
-    ensures { λ r. ⌜ r ≡ cond takes v b ⌝ }
-{
-    if takes { v } else { b }
-}
-
 // The greatest F that may fall, of what is sought for label t.
 fn highest(f: &[f64], y: &[u8], n: usize, nu: bool, t: bool) -> f64
     requires { ⌜ (n ≤ 512) × (4 * n ≤ length (now f)) × (n ≤ length (now y)) ⌝ }
@@ -68,7 +62,7 @@ fn highest(f: &[f64], y: &[u8], n: usize, nu: bool, t: bool) -> f64
     for k in 0..n {
         let v = f[3 * n + k];
         let pos = y[k] == 1;
-        b = greater(seeks(nu, t, pos) & more(nu, b, v), v, b);
+        b = extreme::value_of(seeks(nu, t, pos) & more(nu, b, v), v, b);
     }
     b
 }
@@ -102,11 +96,19 @@ struct First {
     diagonal: f64,
 }
 
+// A place of n stands for nobody, and sample 0 for it.
+fn sample(n: usize, at: usize) -> usize
+    requires { ⌜ 1 ≤ n ⌝ }
+    ensures { λ i. ⌜ (i ≡ placeOf (foundIn n at)) × (i < n) ⌝ }
+{
+    if at < n { at } else { 0 }
+}
+
 fn first_of(f: &[f64], n: usize, r: Race) -> First
     requires { ⌜ (1 ≤ n) × (n ≤ 512) × (4 * n ≤ length (now f)) ⌝ }
-    ensures { λ l. ⌜ (l .value ≡ r .value) × (l .at ≡ cond (ltb (r .at) n) (r .at) 0) × (l .at < n) × (l .diagonal ≡ getD (now (f .entry)) (2 * n + l .at) nan) ⌝ }
+    ensures { λ l. ⌜ (l ≡ record { value = r .value; at = placeOf (foundIn n (r .at)); diagonal = getD (now (f .entry)) (2 * n + placeOf (foundIn n (r .at))) nan }) × (l .at < n) ⌝ }
 {
-    let at = if r.at < n { r.at } else { 0 };
+    let at = sample(n, r.at);
     First {
         value: r.value,
         at,
@@ -194,8 +196,7 @@ pub fn choice(f: &[f64], y: &[u8], m: &[u8], g: Given) -> Choice
     }
     let j = partner(f, y, m, g, first_of(f, n, p), first_of(f, n, q));
     if j < n {
-        let i = if y[j] == 1 { p.at } else { q.at };
-        return paired(n, i, j);
+        return paired(n, extreme::place_of(y[j] == 1, p.at, q.at), j);
     }
     Choice::Optimal
 }

@@ -169,7 +169,7 @@ fn change_of(f: &[f64], y: &[u8], n: usize, k: usize, x: f64) -> f64
 }
 
 // Sample k takes the value x; its F is v.
-fn place(
+pub fn place(
     f: &mut [f64],
     y: &[u8],
     nu: bool,
