@@ -7,12 +7,12 @@ ghost use lib.Dec.{eqb};
 ghost use lib.Ieee.{binary64, nan, mul, eq};
 ghost use lib.ListN.{length, getD};
 ghost use Rattle.alpha.specs.Weight as Weight;
-ghost use Rattle.course.specs.Filled.{diagonalIn};
+ghost use Rattle.course.specs.Filled.{diagonalIn, joinedIn};
 ghost use Rattle.kernel.specs.Matrix.{Matrix, entryAt};
 ghost use Rattle.kernel.specs.Row.{signedOf};
 ghost use Rattle.orderless.specs.Choice.{choiceIn};
 ghost use Rattle.orderless.specs.End.{shareCOf, shareNuOf, levelIn, objectiveIn};
-ghost use Rattle.orderless.specs.Run.{spread, raisedTo, broughtTo, openedTo, Course, course, passes, goesOn, orderless};
+ghost use Rattle.orderless.specs.Run.{spread, raisedTo, openedTo, Course, course, passes, goesOn, orderless};
 ghost use Rattle.orderless.specs.Sheet.{readIn, ceilingsOf, alphaOf};
 ghost use Rattle.orderless.specs.Step.{slope as slopeIn};
 ghost use Rattle.sheet.specs.Ready.{SheetReady, Diagonal};
@@ -72,13 +72,12 @@ fn join(f: &mut [f64], y: &[u8], m: &[u8], g: Given, i: usize)
     bring(f, m, g.side, n, i, kernel::signed(y[i] == 1, v));
 }
 
-// F of each sample before the first pass.
-fn gather(f: &mut [f64], y: &[u8], m: &[u8], g: Given, p: f64, cpos: f64, cneg: f64)
+// What all samples bring to F of each.
+fn gather(f: &mut [f64], y: &[u8], m: &[u8], g: Given)
     requires { ⌜ SheetReady g (now m) (now y) (now f) ⌝ }
-    ensures { λ _. ⌜ now (f .exit) ≡ broughtTo g (now (m .entry)) (now (y .entry)) (ceilingsOf cpos cneg) (λ k. p) (now (f .entry)) (g .n) ⌝ }
+    ensures { λ _. ⌜ now (f .exit) ≡ joinedIn g (now (m .entry)) (now (y .entry)) (now (f .entry)) (g .n) ⌝ }
 {
     let n = g.n;
-    begin(f, y, n, p);
     for i in 0..n {
         join(f, y, m, g, i);
     }
@@ -90,9 +89,10 @@ fn open(f: &mut [f64], y: &[u8], m: &[u8], g: Given, cpos: f64, cneg: f64)
     ensures { λ _. ⌜ now (f .exit) ≡ openedTo g (now (m .entry)) (now (y .entry)) (ceilingsOf cpos cneg) (now (f .entry)) (g .n) ⌝ }
 {
     let n = g.n;
-    let nu = g.nu;
     for k in 0..n {
-        sheet::place(f, y, nu, n, k, f[n + k], f[k], cpos, cneg);
+        let x = f[n + k];
+        let v = f[k];
+        sheet::place(f, y, g.nu, n, k, x, v, cpos, cneg);
     }
 }
 
@@ -156,7 +156,8 @@ pub fn train(
         (orderless g (now (m .entry)) (now (y .entry)) (ceilingsOf cpos cneg) (λ k. p) (diagonalIn g (now (m .entry)) (now (f .entry)) (g .n)) budget) ⌝ }
 {
     diagonals(f, m, g);
-    gather(f, y, m, g, p, cpos, cneg);
+    begin(f, y, g.n, p);
+    gather(f, y, m, g);
     open(f, y, m, g, cpos, cneg);
     go_on(f, y, m, g, cpos, cneg, budget)
 }
