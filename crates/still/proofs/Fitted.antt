@@ -1,7 +1,8 @@
 -- With shrinking off a fit answers what the training without an order table answers, and both its readings are that one's result. Assumes nothing.
 --
 -- Main theorems:
---   fitted-still: outcome, home and crate reading of any fit whose ceilings go by label
+--   fitted-from: outcome, home and crate reading of any fit whose ceilings go by label, from a scratch that holds the start weights
+--   fitted-still: the same, from any scratch
 --   out-alike: the outcome is the same whatever result list is lent
 use Prim.Native.Nat.{ℕ, zero, suc, _+_, _*_, _≤_, _<_}
 use mathlib.Core.Bool.{Bool, true, false, cond}
@@ -100,7 +101,7 @@ module _ (g : Given) (how : Finish) (m l : List ℕ) (top : Bool → Float) (ter
       let v = levelIn g m l top o in
       rw (support-alike (resultOf g how m l top term o v h) (resultOf g how m l top term o v x) (g .n) (λ k K. result-at o v h k K long ∙ sym (result-at o v x k K long')))
 
--- ---- a fit: labels l, ceilings c, start weights a, linear terms p; the other is lent f
+-- ---- a fit: labels l, ceilings c, start weights a, linear terms p
 
 -- what a fit lends, by label and by sample
 pub record ByLabel (g : Given) (l : List ℕ) (c p : List Float) (top : Bool → Float) (term : ℕ → Float) : Type 0 where
@@ -110,9 +111,10 @@ pub record ByLabel (g : Given) (l : List ℕ) (c p : List Float) (top : Bool →
   pub terms : (k : ℕ) → k < g .n → getD p k nan ≡ term k
   pub steady : (k : ℕ) → k < g .n → Steady (term k)
 
-module _ (g : Given) (how : Finish) (m l : List ℕ) (c a p : List Float) (top : Bool → Float) (term : ℕ → Float) (budget : ℕ) (d : Lent) (f : List Float)
+module _ (g : Given) (how : Finish) (m l : List ℕ) (c a p : List Float) (top : Bool → Float) (term : ℕ → Float) (budget : ℕ) (d : Lent)
     (off : g .shrinking ≡ false) (square : g .side ≡ g .n) (B : ByLabel g l c p top term)
-    (lf : 7 * g .n ≤ length (d .floats)) (lu : 2 * g .n ≤ length (d .numbers)) (ly : g .n ≤ length (d .bytes)) (room : sized (g .nu) (g .n) ≤ length f) where
+    (lf : 7 * g .n ≤ length (d .floats)) (lu : 2 * g .n ≤ length (d .numbers)) (ly : g .n ≤ length (d .bytes))
+    (f1 : List Float) (room : sized (g .nu) (g .n) ≤ length f1) (W : (k : ℕ) → k < g .n → getD f1 (g .n + k) nan ≡ getD a k nan) where
   abbrev n : ℕ
   n = g .n
 
@@ -136,18 +138,15 @@ module _ (g : Given) (how : Finish) (m l : List ℕ) (c a p : List Float) (top :
       lent-by g m u y top c (λ k K. index-loaded n (d .numbers) lu n k (omega arith) K) (λ k K. rw (label-is k K) (B .labels k K))
       (λ k K. B .ceilings k K ∙ ap top (sym (pos-is k K))) (B .above)
 
-  abbrev f1 : List Float
-  f1 = weightsTo n a f n
-
   both : Both g m u y top c alike term x f1
   both = record {
-    weights = λ k K. weight-loaded n c a p (d .floats) lf n k (omega arith) K ∙ sym (weights-at n a f k K (two-fields (g .nu) n (length f) room));
+    weights = λ k K. weight-loaded n c a p (d .floats) lf n k (omega arith) K ∙ sym (W k K);
     uppers = λ k K. ceiling-loaded n c a p (d .floats) lf n k (omega arith) K ∙ B .ceilings k K ∙ ap top (sym (pos-is k K));
     terms = λ k K. linear-loaded n c a p (d .floats) lf n k (omega arith) K ∙ B .terms k K;
     steady = B .steady;
     square = square;
     long = rw (length-floats n c a p (d .floats) n) lf;
-    room = rw (length-weights n a f n) room;
+    room = room;
   }
 
   abbrev w : Full
@@ -196,10 +195,19 @@ module _ (g : Given) (how : Finish) (m l : List ℕ) (c a p : List Float) (top :
   free : stuck (w .run .status) ≡ false
   free = ap stuck (beside .status) ∙ not-stuck (orderless g m y top term f1 budget .going)
 
-  pub fitted-still : Answers (fitted g how m l c a p budget d) (fittedStill g how m l top term a budget f) d
-  unfolding fitted solved settledBy fittedStill replyOf
-  fitted-still = record {
+  -- f1 is lent with the weights in their field
+  pub fitted-from : Answers (fitted g how m l c a p budget d) (replyOf g how m l top term budget (orderless g m l top term f1 budget)) d
+  unfolding fitted solved settledBy replyOf
+  fitted-from = record {
     out = rw (free, level-is, home-is (d .home), objective-is, steps-are);
     home = rw (free, level-is) (home-is (d .home));
     crate = rw (free, level-is) (crate-is (d .crate));
   }
+
+pub fitted-still : (g : Given) (how : Finish) (m l : List ℕ) (c a p : List Float) (top : Bool → Float) (term : ℕ → Float) (budget : ℕ) (d : Lent) (f : List Float)
+    → g .shrinking ≡ false → g .side ≡ g .n → ByLabel g l c p top term → 7 * g .n ≤ length (d .floats) → 2 * g .n ≤ length (d .numbers) → g .n ≤ length (d .bytes)
+    → sized (g .nu) (g .n) ≤ length f → Answers (fitted g how m l c a p budget d) (fittedStill g how m l top term a budget f) d
+unfolding fittedStill
+fitted-still g how m l c a p top term budget d f off square B lf lu ly room =
+    fitted-from g how m l c a p top term budget d off square B lf lu ly (weightsTo (g .n) a f (g .n)) (rw (length-weights (g .n) a f (g .n)) room)
+    (λ k K. weights-at (g .n) a f k K (two-fields (g .nu) (g .n) (length f) room))
