@@ -15,7 +15,7 @@ use Rattle.orderless.specs.Step.{steps}
 use Rattle.orderless.proofs.Laid.{steps-diagonal}
 use Rattle.orderless.proofs.Starts.{length-brought, brought-other, opened-diagonal}
 use Rattle.rho.specs.Rho.{positiveIn}
-use Rattle.rows.proofs.Filled.{filled-length, filled-at}
+use Rattle.rows.proofs.Filled.{filled-length, filled-other, filled-at}
 use Rattle.sheet.specs.Ready.{SheetReady, Diagonal}
 use Rattle.solver.specs.declared.Given.{Given}
 use Rattle.course.specs.Filled.{diagonalIn, joinedIn}
@@ -43,6 +43,11 @@ module _ (g : Given) (m : List ℕ) (f : List Float) where
   pub length-diagonal : (k : ℕ) → length (diagonalIn g m f k) ≡ length f
   unfolding diagonalIn
   length-diagonal = filled-length (diagonalIn g m f) (λ k. 2 * g .n + k) (λ k x. entry g m k k) (λ k. refl) (λ h k q e. omega arith)
+
+  -- nothing before its field is touched
+  pub diagonal-other : (k q : ℕ) → q < 2 * g .n → getD (diagonalIn g m f k) q nan ≡ getD f q nan
+  unfolding diagonalIn
+  diagonal-other k q h = filled-other (diagonalIn g m f) (λ k. 2 * g .n + k) (λ k x. entry g m k k) (λ k. refl) (λ h k q e. omega arith) k q (λ i r e. omega arith)
 
   pub diagonal-filled : 5 * g .n ≤ length f → Diagonal g m (diagonalIn g m f (g .n))
   unfolding diagonalIn

@@ -42,15 +42,15 @@ use Rattle.still.specs.Answered.{Answers, weightsTo, resultOf, replyOf, 
 -- ---- the weights in their field
 
 module _ (n : ℕ) (a f : List Float) where
-  length-weights : (k : ℕ) → length (weightsTo n a f k) ≡ length f
+  pub length-weights : (k : ℕ) → length (weightsTo n a f k) ≡ length f
   unfolding weightsTo
   length-weights = filled-length (weightsTo n a f) (λ k. n + k) (λ k x. getD a k nan) (λ k. refl) (λ h k g e. omega arith)
 
-  weights-at : (k : ℕ) → k < n → 2 * n ≤ length f → getD (weightsTo n a f n) (n + k) nan ≡ getD a k nan
+  pub weights-at : (k : ℕ) → k < n → 2 * n ≤ length f → getD (weightsTo n a f n) (n + k) nan ≡ getD a k nan
   unfolding weightsTo
   weights-at k K long = filled-at (weightsTo n a f) (λ k. n + k) (λ k x. getD a k nan) (λ k. refl) (λ h k g e. omega arith) n k K (omega arith)
 
-two-fields : (nu : Bool) (n x : ℕ) → sized nu n ≤ x → 2 * n ≤ x
+pub two-fields : (nu : Bool) (n x : ℕ) → sized nu n ≤ x → 2 * n ≤ x
 two-fields true n x h = omega arith
 two-fields false n x h = omega arith
 
