@@ -1,7 +1,7 @@
 -- The reply by the calls of the code, and that it is the rule's answer. Assumes nothing.
 --
 -- Main theorems:
---   fit-answers: what `fit` replies is what the rule's fit answers, both its readings
+--   fit-answers: what the code replies is what the rule's fit answers, with both its readings
 use Prim.Native.Nat.{ℕ, _+_, _*_, _≤_}
 use mathlib.Core.Bool.{Bool, false}
 use mathlib.Core.List.{List}
