@@ -64,7 +64,7 @@ fn coefficient(how: Finish, label: u8, r: f64, x: f64) -> f64
 }
 
 // Each of the first n places of a reading by its sample's label.
-fn finish_reading(d: &mut [f64], l: &[u8], n: usize, how: Finish, r: f64)
+pub fn finish_reading(d: &mut [f64], l: &[u8], n: usize, how: Finish, r: f64)
     requires { ⌜ (n ≤ length (now d)) × (n ≤ length (now l)) ⌝ }
     ensures { λ _. ⌜ now (d .exit) ≡ finishedTo how (now (l .entry)) r (now (d .entry)) n ⌝ }
 {
@@ -87,7 +87,7 @@ fn count(x: f64, t: usize) -> usize
     }
 }
 
-fn support(h: &[f64], n: usize) -> usize
+pub fn support(h: &[f64], n: usize) -> usize
     requires { ⌜ (n ≤ 512) × (n ≤ length (now h)) ⌝ }
     ensures { λ z. ⌜ z ≡ supportOf (now (h .entry)) n ⌝ }
 {
@@ -98,7 +98,7 @@ fn support(h: &[f64], n: usize) -> usize
     t
 }
 
-fn rho_of(how: Finish, v: Level) -> f64
+pub fn rho_of(how: Finish, v: Level) -> f64
     ensures { λ z. ⌜ z ≡ rhoOf how v ⌝ }
 {
     match how {
@@ -108,7 +108,7 @@ fn rho_of(how: Finish, v: Level) -> f64
     }
 }
 
-fn obj_of(how: Finish, v: Level, obj: f64) -> f64
+pub fn obj_of(how: Finish, v: Level, obj: f64) -> f64
     ensures { λ z. ⌜ z ≡ objOf how v obj ⌝ }
 {
     match how {
@@ -118,7 +118,7 @@ fn obj_of(how: Finish, v: Level, obj: f64) -> f64
     }
 }
 
-fn ratio_of(nu: bool, v: Level) -> Ratio
+pub fn ratio_of(nu: bool, v: Level) -> Ratio
     ensures { λ z. ⌜ z ≡ ratioOf nu v ⌝ }
 {
     if nu {
@@ -128,7 +128,7 @@ fn ratio_of(nu: bool, v: Level) -> Ratio
     }
 }
 
-fn reason(iterations: usize, budget: usize) -> ExitReason
+pub fn reason(iterations: usize, budget: usize) -> ExitReason
     ensures { λ z. ⌜ z ≡ reasonOf iterations budget ⌝ }
 {
     if iterations == budget {

@@ -1,3 +1,4 @@
 pub mod Rule
 pub mod Tests
 pub mod Racing
+pub mod Alike

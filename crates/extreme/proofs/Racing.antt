@@ -1,16 +1,17 @@
 -- A race ends where the best does: its value is the best's but for the sign of a zero, its place is the holder. Assumes nothing.
 use Prim.Native.Nat.{ℕ, _<_}
-use mathlib.Core.Bool.{Bool, true, false, not, cond}
+use mathlib.Core.Bool.{Bool, true, false, not, _&&_, cond}
 use mathlib.Core.Path.{_≡_, refl, sym}
 use native.Mathlib.Omega.{arith}
-use borrow.Author.Tests.{lt-ltb}
+use borrow.Author.Tests.{lt-ltb, le-ltb}
 use lib.Dec.{T, T-not, ltb, ltb→lt}
 use lib.Ieee.{Float, inf, isNan}
 use Rattle.rounding.specs.Units.{NotNan}
 use Rattle.rounding.proofs.Order.{holds, fails, le-real, lt→le, le-refl, le-trans, not-lt}
-use Rattle.extreme.specs.Best.{nobody, held, atMost, weighed}
-use Rattle.extreme.specs.Racing.{racing, below, raced, foundIn}
+use Rattle.extreme.specs.Best.{nobody, held, atMost, weighed, Below}
+use Rattle.extreme.specs.Racing.{racing, below, raced, foundIn, placeIn, raceOf}
 use Rattle.extreme.specs.declared.Extreme.{Extreme}
+use Rattle.extreme.specs.declared.Found.{Found}
 use Rattle.extreme.specs.declared.Found.the-variants.{At, Nobody}
 use Rattle.extreme.specs.declared.Race.{Race}
 
@@ -82,3 +83,17 @@ module _ {strict takes : Float → Float → Bool} {start : Float} (h : Halves s
   unfolding raced
   tracks-weighed a k v r e l w true = rw (sym (same-test (r .value) (e .value) v (w .value))) (tracks-raced a k v r e l w (takes (r .value) v) refl)
   tracks-weighed a k v r e l w false = w
+
+-- ---- an extreme as a race: one candidate more, and back
+
+pub race-weighed : (takes : Float → Float → Bool) (a k : ℕ) (v : Float) (may : Bool) (e : Extreme)
+    → racing (cond (may && takes (e .value) v) v (e .value)) (cond (may && takes (e .value) v) k (placeIn a (e .holder))) ≡ raceOf a (weighed takes may k v e)
+race-weighed takes a k v may e = go (may && takes (e .value) v)
+  where
+    go : (b : Bool) → racing (cond b v (e .value)) (cond b k (placeIn a (e .holder))) ≡ raceOf a (cond b (held v k) e)
+    go true = refl
+    go false = refl
+
+pub race-found : (a : ℕ) (h : Found) → Below a h → h ≡ foundIn a (placeIn a h)
+race-found a (At i) b = rw (lt-ltb i a (b i refl))
+race-found a Nobody b = rw (le-ltb a a (omega arith))

@@ -3,6 +3,7 @@ use Prim.Native.Nat.{ℕ}
 use mathlib.Core.Bool.{Bool, cond}
 use lib.Dec.{ltb}
 use lib.Ieee.{Float, lt}
+use Rattle.extreme.specs.declared.Extreme.{Extreme}
 use Rattle.extreme.specs.declared.Found.{Found}
 use Rattle.extreme.specs.declared.Found.the-variants.{At, Nobody}
 use Rattle.extreme.specs.declared.Race.{Race}
@@ -21,3 +22,11 @@ raced strict takes k v r = racing (cond (strict (r .value) v) v (r .value)) (con
 -- the holder, where a place of a or above stands for nobody
 abbrev pub foundIn : ℕ → ℕ → Found
 foundIn a i = cond (ltb i a) (At i) Nobody
+
+-- the other way round: an extreme of candidates below a, as a race
+abbrev pub placeIn : ℕ → Found → ℕ
+placeIn a (At i) = i
+placeIn a Nobody = a
+
+abbrev pub raceOf : ℕ → Extreme → Race
+raceOf a e = racing (e .value) (placeIn a (e .holder))

@@ -2,7 +2,7 @@
 ghost use mathlib.Core.Bool.{cond};
 ghost use mathlib.Core.Path.{_≡_};
 ghost use Rattle.extreme.specs.Best.{weighed, atLeast, above, atMost};
-ghost use Rattle.extreme.specs.Racing.{below, raced};
+ghost use Rattle.extreme.specs.Racing.{below, racing, raced};
 
 pub enum Found {
     At(usize),
@@ -71,13 +71,13 @@ pub fn lifted(b: Extreme, may: bool, k: usize, v: f64) -> Extreme
     }
 }
 
-fn value_of(better: bool, v: f64, b: f64) -> f64
+pub fn value_of(better: bool, v: f64, b: f64) -> f64
     ensures { λ r. ⌜ r ≡ cond better v b ⌝ }
 {
     if better { v } else { b }
 }
 
-fn place_of(better: bool, k: usize, at: usize) -> usize
+pub fn place_of(better: bool, k: usize, at: usize) -> usize
     ensures { λ r. ⌜ r ≡ cond better k at ⌝ }
 {
     if better { k } else { at }
@@ -90,5 +90,15 @@ pub fn behind(r: Race, k: usize, v: f64) -> Race
     Race {
         value: value_of(v < r.value, v, r.value),
         at: place_of(v <= r.value, k, r.at),
+    }
+}
+
+// Place and value go to candidate k where it takes them.
+pub fn taken(r: Race, takes: bool, k: usize, v: f64) -> Race
+    ensures { λ q. ⌜ q ≡ racing (cond takes v (r .value)) (cond takes k (r .at)) ⌝ }
+{
+    Race {
+        value: value_of(takes, v, r.value),
+        at: place_of(takes, k, r.at),
     }
 }

@@ -11,6 +11,7 @@ use lib.Ieee.{Float, nan, inf, fin, Format, low, up, down, lt, le, isNan, fits, 
 use lib.Ieee.Fits.{down-pos}
 use lib.Ieee.Scale.{finite}
 use Rattle.rounding.specs.Units.{NotNan, Number, Parts, plus, minus, magnitude}
+use Rattle.rounding.proofs.Nan.{lt-nan, nan-lt}
 use Rattle.rounding.proofs.Order.{le-refl, lt→le, lt-real, not-lt}
 use Rattle.rounding.proofs.Units.{value}
 use Rattle.floats.specs.Helpers.{maxOf, minOf, absOf}
@@ -49,6 +50,19 @@ max-picks x y =
 pub min-picks : (x y : Float) → Picks (λ a b. le b a) x y (minOf x y)
 min-picks x y =
     picks (λ a b. le b a) le-refl x y (isNan x) (lt y x) refl (λ t. (lt-real y x t .0, lt→le y x t)) (λ t p q. not-lt y x q p .0 t) (λ t a b. T-not (lt y x) b t)
+
+-- a NaN is passed over
+pub max-nan : (x : Float) → maxOf x nan ≡ x
+unfolding isNan
+max-nan nan = refl
+max-nan (inf s) = rw (lt-nan (inf s))
+max-nan (fin s m e) = rw (lt-nan (fin s m e))
+
+pub min-nan : (x : Float) → minOf x nan ≡ x
+unfolding isNan
+min-nan nan = refl
+min-nan (inf s) = rw (nan-lt (inf s))
+min-nan (fin s m e) = rw (nan-lt (fin s m e))
 
 -- ---- abs: as far above zero as x is from it
 abs-number : (f : Format) (x : Float) → Number f x → Number f (absOf x)

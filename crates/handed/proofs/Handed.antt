@@ -24,6 +24,7 @@ use Rattle.classification.proofs.Laws.{Usable, usable-general, usable-c, usable
 use Rattle.extreme.specs.declared.Choice.the-variants.{Pair}
 use Rattle.hosted.specs.Hosted.{decodedTo, floatsOf, storedTo, room, Handed, handed, deliveredBy, delivered, turnedAway, hostedBy, freshPlaces, freshFloats, freshNumbers, freshBytes, answeredBy}
 use Rattle.hosted.proofs.Serves.{Serves, inputs-right, serves}
+use Rattle.fits.proofs.Starts.{cost-at}
 use Rattle.judge.specs.Judge.{generalJudged, cJudged, nuJudged, oneClassJudged}
 use Rattle.judge.specs.Sizes.{sizes, Room}
 use Rattle.judge.specs.declared.Judged.{Judged}
@@ -33,7 +34,7 @@ use Rattle.promises.specs.Fit.{Fit, ownWeight, rOf, after, weightAfter, pairAft
 use Rattle.classification.proofs.Accepts.{decided-in}
 use Rattle.promises.proofs.Alike.{served-alike}
 use Rattle.promises.proofs.Box.{Common, served-box, served-no-nan, served-home-box}
-use Rattle.promises.proofs.Boxes.{general-common, cost-at, nu-home-box, one-class-home-box}
+use Rattle.promises.proofs.Boxes.{general-common, nu-home-box, one-class-home-box}
 use Rattle.finder.proofs.Doubles.{Double}
 use Rattle.promises.proofs.Doubles.{coefficient-doubled, served-own-double}
 use Rattle.promises.proofs.Home.{served-home}
@@ -217,7 +218,7 @@ module _ (n : ℕ) (m l : List ℕ) (cpos cneg eps shrinking budget : ℕ) (cr h
       let r = c-ran .2 in
       let most = r .served .room .most in
       gives r (served-own-double (r .served)
-      (λ i g. rw (cost-at (asFloat cpos) (asFloat cneg) l n i most g) (cond-fits binary64 (eqb (getD l i 0) 1) _ _ (ofBits-fits binary64 cpos) (ofBits-fits binary64 cneg)))
+      (λ i g. rw (cost-at n i most g (asFloat cpos) (asFloat cneg) l) (cond-fits binary64 (eqb (getD l i 0) 1) _ _ (ofBits-fits binary64 cpos) (ofBits-fits binary64 cneg)))
       (λ i g. rw (getD-replicate 512 i Weight.zero nan (omega (arith, most))) (ofBits-fits binary64 0))
       (r .out .answer) (r .out .accepted))
 

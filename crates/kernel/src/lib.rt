@@ -68,7 +68,7 @@ pub fn alike(kind: Kind, a: u8, b: u8) -> bool
     }
 }
 
-fn signed(alike: bool, x: f64) -> f64
+pub fn signed(alike: bool, x: f64) -> f64
     ensures { λ r. ⌜ r ≡ signedOf alike x ⌝ }
 {
     if alike { x } else { -x }

@@ -30,7 +30,7 @@ both : (a b : Bool) → T a → T b → T (a && b)
 both true b t u = u
 both false b t u = t
 
-at-place : (h : Found) → T (isAt h) → h ≡ At (placeOf h)
+pub at-place : (h : Found) → T (isAt h) → h ≡ At (placeOf h)
 at-place (At i) t = refl
 at-place Nobody t = absurd t
 

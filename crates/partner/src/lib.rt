@@ -59,7 +59,7 @@ pub fn stirs(g: f64, w: Alpha, up: f64, low: f64) -> bool
     (g >= low) | ((-g >= up) & !w.reached_upper())
 }
 
-fn curvature_of(floor: f64, a: f64, b: f64, r: f64, agree: bool) -> f64
+pub fn curvature_of(floor: f64, a: f64, b: f64, r: f64, agree: bool) -> f64
     ensures { λ q. ⌜ q ≡ curvature floor a b r agree ⌝ }
 {
     let q = kernel::quad_coef(agree, a, b, r);
@@ -72,7 +72,7 @@ fn gap_of(pos: bool, top: f64, g: f64) -> f64
     if pos { top + g } else { top - g }
 }
 
-fn gain_of(d: f64, q: f64) -> f64
+pub fn gain_of(d: f64, q: f64) -> f64
     ensures { λ r. ⌜ r ≡ gain d q ⌝ }
 {
     -(d * d) / q

@@ -8,7 +8,7 @@ use native.Mathlib.Omega.{arith}
 use lib.Dec.{T, eqb}
 use lib.Ieee.{Float, nan, binary64, ofBits, fits, isNan}
 use lib.Ieee.Bits.{ofBits-fits}
-use lib.ListN.{getD, replicate, length-replicate, getD-replicate}
+use lib.ListN.{getD}
 use Rattle.alpha.specs.Weight as Weight
 use Rattle.alpha.specs.Weight.{one}
 use Rattle.answer.specs.Lent.{Lent}
@@ -18,12 +18,12 @@ use Rattle.boxed.specs.Range.{Ceiling, In}
 use Rattle.boxed.proofs.Step.{floor-divides}
 use Rattle.classification.specs.Entries.{generalOf, fitCOf, fitNuOf, fitOneClassOf}
 use Rattle.extreme.specs.declared.Choice.the-variants.{Pair}
-use Rattle.fits.specs.Starts.{nothing, evenly, costOf, costsTo, half, sharedTo, oneClassTo}
+use Rattle.fits.specs.Starts.{nothing, half, sharedTo, oneClassTo}
+use Rattle.fits.proofs.Starts.{nothing-at, evenly-at, positive-at, cost-at}
 use Rattle.judge.specs.Judge.{isCeiling, ceilingGood, alphaGood, generalJudged}
 use Rattle.judge.specs.declared.Judged.the-variants.{Fine}
 use Rattle.judge.proofs.Accepted.{general-fine, c-fine, nu-fine, one-class-fine, alpha-within, nu-within}
 use Rattle.judge.proofs.First.{first-fine}
-use Rattle.lists.proofs.Prefix.{prefix-at, filled-at}
 use Rattle.rounding.specs.Units.{NotNan}
 use Rattle.rounding.proofs.Order.{le-refl}
 use Rattle.travel.specs.Home.{lastLeft}
@@ -78,11 +78,6 @@ module _ (n : ℕ) (m l : List ℕ) (c a p : List Float) (nurule : Bool) (eps : 
 
 -- ---- C: one cost for both labels
 
-pub cost-at : (cpos cneg : Float) (l : List ℕ) (n i : ℕ) → n ≤ 512 → i < n → getD (costsTo cpos cneg l nothing n) i nan ≡ costOf cpos cneg (getD l i 0)
-unfolding costsTo
-cost-at cpos cneg l n i b h =
-    prefix-at nan (costsTo cpos cneg l nothing) (λ k. costOf cpos cneg (getD l k 0)) (λ k. refl) n i (rw (length-replicate 512 Weight.zero) b) h
-
 same-cost : (c : Float) (b : Bool) → cond b c c ≡ c
 same-cost c true = refl
 same-cost c false = refl
@@ -100,8 +95,8 @@ module _ (n : ℕ) (m l : List ℕ) (cost eps : Float) (shrinking : Bool) (budge
       let top = ceiling-in cost fit (f .cpos-good) in
       record {
         ceiling = top;
-        places = λ i h. cost-at cost cost l n i most h ∙ same-cost cost (eqb (getD l i 0) 1);
-        weights = λ i h. rw (getD-replicate 512 i Weight.zero nan (omega (arith, most))) (nought-in cost top);
+        places = λ i h. cost-at n i most h cost cost l ∙ same-cost cost (eqb (getD l i 0) 1);
+        weights = λ i h. rw (nothing-at n i most h) (nought-in cost top);
         entries = entries-in n m (f .matrix);
         labels = labels-in n l (f .labels);
         floor = floor-divides;
@@ -119,9 +114,6 @@ module _ (n : ℕ) (m l : List ℕ) (cost eps : Float) (shrinking : Bool) (budge
 
 -- ---- nu and one-class: every ceiling is 1
 
-ones : (n i : ℕ) → n ≤ 512 → i < n → getD (evenly one n) i nan ≡ one
-ones n i b h = filled-at nan one nothing n i (rw (length-replicate 512 Weight.zero) b) h
-
 module _ (n : ℕ) (m l : List ℕ) (nu eps : Float) (shrinking : Bool) (budget : ℕ) (d : Lent) (x : Answer) (e : fitNuOf n m l nu eps shrinking budget d .out ≡ Accepted x)
     (fit : T (fits binary64 nu)) where
   nu-common : Common (nuFit n l nu eps shrinking) m one
@@ -131,7 +123,7 @@ module _ (n : ℕ) (m l : List ℕ) (nu eps : Float) (shrinking : Bool) (budget 
       let w = nu-within nu (f .nu-good) in
       record {
         ceiling = ceiling-one;
-        places = λ i h. ones n i (r .most) h;
+        places = λ i h. evenly-at n i (r .most) h one;
         weights = nu-start nu fit (w .0) (w .1) n (r .some) (r .most) l;
         entries = entries-in n m (f .matrix);
         labels = labels-in n l (f .labels);
@@ -157,10 +149,10 @@ module _ (n : ℕ) (m : List ℕ) (nu eps : Float) (shrinking : Bool) (budget : 
       let w = nu-within nu (f .nu-good) in
       record {
         ceiling = ceiling-one;
-        places = λ i h. ones n i (r .most) h;
+        places = λ i h. evenly-at n i (r .most) h one;
         weights = one-class-start nu fit (w .0) (w .1) n (r .some) (r .most);
         entries = entries-in n m (f .matrix);
-        labels = λ i h. rw (filled-at {A = ℕ} 0 1 (replicate 512 0) n i (rw (length-replicate {A = ℕ} 512 0) (r .most)) h) (omega arith);
+        labels = λ i h. rw (positive-at n i (r .most) h) (omega arith);
         floor = floor-divides;
       }
 

@@ -19,7 +19,7 @@ pub struct Level {
     pub r: f64,
 }
 
-fn sign(positive: bool, g: f64) -> f64
+pub fn sign(positive: bool, g: f64) -> f64
     ensures { λ z. ⌜ z ≡ signed positive g ⌝ }
 {
     if positive { 1.0 * g } else { -1.0 * g }
@@ -71,7 +71,7 @@ fn ub_raised(s: Share, g: f64) -> Share
 }
 
 // C rule, one position.
-fn weigh(s: Share, positive: bool, w: Alpha, g: f64) -> Share
+pub fn weigh(s: Share, positive: bool, w: Alpha, g: f64) -> Share
     requires { ⌜ s .free < 512 ⌝ }
     ensures { λ z. ⌜ (z ≡ shareWithC positive w g s) × (z .free ≤ s .free + 1) ⌝ }
 {
@@ -124,7 +124,7 @@ fn share_c(f: &[f64], y: &[u8], n: usize, active: usize) -> Share
 }
 
 // A position counts only where it has the label.
-fn join(s: Share, counts: bool, w: Alpha, g: f64) -> Share
+pub fn join(s: Share, counts: bool, w: Alpha, g: f64) -> Share
     requires { ⌜ s .free < 512 ⌝ }
     ensures { λ z. ⌜ (z ≡ joinedNu counts w g s) × (z .free ≤ s .free + 1) ⌝ }
 {
@@ -148,7 +148,7 @@ fn share_nu(f: &[f64], y: &[u8], n: usize, active: usize, label: u8) -> Share
 }
 
 // The mean of the free ones, or the middle of the bounds.
-fn settle(s: Share) -> f64
+pub fn settle(s: Share) -> f64
     requires { ⌜ s .free ≤ 512 ⌝ }
     ensures { λ z. ⌜ z ≡ middle s ⌝ }
 {

@@ -4,5 +4,6 @@ pub mod Units
 pub mod Rounding
 pub mod Sums
 pub mod Products
+pub mod Nan
 pub mod NoNan
 pub mod Binary64

@@ -1,7 +1,7 @@
 -- Two states that are alike over what stands choose the same pair. Assumes nothing.
 use Prim.Native.Nat.{ℕ, _<_, _≤_}
-use mathlib.Core.Bool.{Bool, true, false, _&&_, true≢false}
-use mathlib.Core.Path.{_≡_, refl, sym, ap, ap₂, _∙_}
+use mathlib.Core.Bool.{Bool, true, false, _&&_}
+use mathlib.Core.Path.{_≡_, refl, ap, ap₂, _∙_}
 use native.Mathlib.Omega.{arith}
 use lib.Dec.{eqb}
 use lib.Ieee.{Float, inf, lt}
@@ -15,19 +15,16 @@ use Rattle.extreme.specs.declared.Choice.the-variants.{Pair}
 use Rattle.extreme.specs.declared.Extreme.{Extreme}
 use Rattle.extreme.specs.declared.Found.{Found}
 use Rattle.extreme.specs.declared.Found.the-variants.{At, Nobody}
+use Rattle.extreme.proofs.Alike.{over-alike, best-eligible}
 use Rattle.partner.specs.Curvature.{gapOf}
 use Rattle.partner.specs.Second.{isAt, placeOf, follows, gainOf, paired, pairedWith}
-use Rattle.partner.proofs.Rule.{not-optimal}
+use Rattle.partner.proofs.Rule.{at-place, not-optimal}
 use Rattle.partner.specs.Sides.{risesOf, fallsOf, riseOf, fallOf, mayRise, mayFall, rise, fall}
+use Rattle.rounding.proofs.Order.{holds}
 use Rattle.state.specs.Fields.{gradient, alpha, positive}
 use Rattle.state.specs.Lists.{Problem, State}
 use Rattle.standing.proofs.Alike.{Alike}
 use Rattle.standing.specs.Over.{secondOver, choiceOver, extremesOver, choiceCOver, risenOver, fallenOver, choiceNuOver}
-use Rattle.standing.proofs.Best.{over-alike, best-eligible}
-
-at-place : (h : Found) → isAt h ≡ true → h ≡ At (placeOf h)
-at-place (At i) e = refl
-at-place Nobody e = absurd (true≢false (sym e))
 
 first-true : (x y : Bool) → (x && y) ≡ true → x ≡ true
 first-true true y e = refl
@@ -102,7 +99,7 @@ module _ (stands : ℕ → Bool) (p q : Problem) (s t : State) (A : Alike stands
           ≡ gainOf q t floor (lead' (positive t j) .value) (placeOf (lead' (positive t j) .holder)) j
       gain-same j c h f =
           let e = lead (positive s j) in
-          let u = holder (positive s j) (placeOf (e .holder)) (at-place (e .holder) (first-true (isAt (e .holder)) _ f)) in
+          let u = holder (positive s j) (placeOf (e .holder)) (at-place (e .holder) (holds _ .1 (first-true (isAt (e .holder)) _ f))) in
           gain-by (e .value) (placeOf (e .holder)) j (omega (arith, u .0)) c (u .1) h
           ∙ ap (λ (x : Extreme). gainOf q t floor (x .value) (placeOf (x .holder)) j) (lead-same j c h)
 

@@ -1,9 +1,7 @@
 pub mod Alike
-pub mod Best
 pub mod Choices
 pub mod Updates
 pub mod Runs
-pub mod Nan
 pub mod Silent
 pub mod Starts
 pub mod Ends

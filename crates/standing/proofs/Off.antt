@@ -9,6 +9,7 @@ use lib.ListN.{length}
 use Rattle.alpha.specs.Weight.{atLower}
 use Rattle.extreme.specs.declared.Choice.{Choice}
 use Rattle.extreme.specs.declared.Choice.the-variants.{Pair, Optimal}
+use Rattle.rounding.proofs.Nan.{nan-add}
 use Rattle.solver.specs.End.{trained}
 use Rattle.solver.specs.Pass.{chosen, countedDown, stepped, looked, workedBy, onward, passed, next, runs}
 use Rattle.solver.specs.Run.{problemOf, Full, full, withRun, goes, ended, readyOf}
@@ -20,7 +21,6 @@ use Rattle.update.specs.Update.{updatedState}
 use Rattle.update.proofs.Left.{length-updated, alpha-other, gradient-active}
 use Rattle.standing.proofs.Alike.{Alike}
 use Rattle.standing.specs.Run.{chosenOver, passedOn, nextOver, runsOver, trainedOver}
-use Rattle.standing.proofs.Nan.{nan-add}
 use Rattle.standing.proofs.Runs.{chosen-stands}
 use Rattle.standing.proofs.Silent.{Silent, choice-c-silent, choice-nu-silent}
 

@@ -7,7 +7,6 @@ use lib.Dec.{eqb}
 use lib.Ieee.{Float, nan, binary64, ofBits, add, mul}
 use lib.ListN.{getD}
 use Rattle.rho.specs.Rho.{noShare, shareWithC, joinedNu, positiveIn, signed}
-use Rattle.rho.specs.declared.Share.{Share}
 use Rattle.state.specs.Fields.{alphaIn}
 use Rattle.standing.specs.End.{standing, folded, shareCOver, shareNuOver, sumOver}
 

@@ -12,7 +12,7 @@ use Rattle.solver.specs.Pass.{stepped}
 use Rattle.solver.specs.Run.{problemOf, Full, goes, advanced, ended}
 use Rattle.solver.specs.declared.Given.{Given}
 use Rattle.solver.specs.declared.Run.{Run}
-use Rattle.state.specs.Lists.{State, over}
+use Rattle.state.specs.Lists.{State}
 use Rattle.update.proofs.Left.{length-updated}
 use Rattle.standing.proofs.Alike.{Alike, SameBounds}
 use Rattle.standing.specs.Over.{choiceCOver, choiceNuOver}

@@ -17,18 +17,19 @@ use Rattle.extreme.specs.declared.Choice.the-variants.{Optimal}
 use Rattle.extreme.specs.declared.Extreme.{Extreme}
 use Rattle.extreme.specs.declared.Found.{Found}
 use Rattle.extreme.specs.declared.Found.the-variants.{At, Nobody}
+use Rattle.extreme.proofs.Alike.{best-alike}
+use Rattle.floats.proofs.Laws.{max-nan, min-nan}
 use Rattle.partner.specs.Curvature.{gapOf}
 use Rattle.partner.specs.Second.{isAt, placeOf, follows, gainOf, second, paired, pairedWith, choice}
 use Rattle.partner.specs.Sides.{riseOf, fallOf, mayRise, mayFall, rise, fall}
 use Rattle.rho.specs.Rho.{lbRaised, ubLowered, ubRaised, signed, shareWithC, shareWithNu, joinedNu, positiveIn, shareC, shareNu, middle, levelOf, levelBy}
 use Rattle.rho.specs.declared.Share.{Share}
+use Rattle.rounding.proofs.Nan.{lt-nan, le-nan, add-nan, sub-nan, mul-nan}
 use Rattle.state.specs.Fields.{gradient, alpha, alphaIn, positive}
 use Rattle.state.specs.Lists.{Problem, State}
 use Rattle.standing.specs.End.{shareCOver, shareNuOver, levelOver}
 use Rattle.standing.specs.Over.{secondOver, choiceOver, extremesOver, choiceCOver, risenOver, fallenOver, choiceNuOver}
-use Rattle.standing.proofs.Best.{best-alike}
 use Rattle.standing.proofs.Choices.{stop-by}
-use Rattle.standing.proofs.Nan.{lt-nan, le-nan, add-nan, sub-nan, mul-nan, max-nan, min-nan}
 
 shut : (x : Bool) → (x && false) ≡ false
 shut true = refl

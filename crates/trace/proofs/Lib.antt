@@ -1,4 +1,5 @@
 pub mod Rests
+pub mod Started
 pub mod Kept
 pub mod Passes
 pub mod Off

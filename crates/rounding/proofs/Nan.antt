@@ -1,8 +1,7 @@
--- A NaN takes nobody's place, and max and min pass it over. Assumes nothing.
+-- A NaN is below and above nothing, and whatever it enters is one. Assumes nothing.
 use mathlib.Core.Bool.{false}
 use mathlib.Core.Path.{_≡_, refl}
-use lib.Ieee.{Float, nan, inf, fin, binary64, isNan, neg, add, sub, mul, lt, le, eq}
-use Rattle.floats.specs.Helpers.{maxOf, minOf}
+use lib.Ieee.{Float, nan, inf, fin, binary64, neg, add, sub, mul, lt, le, eq}
 
 pub lt-nan : (x : Float) → lt x nan ≡ false
 unfolding lt
@@ -47,15 +46,3 @@ neg-nan = refl
 pub sub-nan : (x : Float) → sub binary64 x nan ≡ nan
 unfolding sub neg
 sub-nan x = add-nan x
-
-pub max-nan : (x : Float) → maxOf x nan ≡ x
-unfolding isNan
-max-nan nan = refl
-max-nan (inf s) = rw (lt-nan (inf s))
-max-nan (fin s m e) = rw (lt-nan (fin s m e))
-
-pub min-nan : (x : Float) → minOf x nan ≡ x
-unfolding isNan
-min-nan nan = refl
-min-nan (inf s) = rw (nan-lt (inf s))
-min-nan (fin s m e) = rw (nan-lt (fin s m e))

@@ -1,0 +1,14 @@
+pub mod Plain
+pub mod Copies
+pub mod Relation
+pub mod Chosen
+pub mod Stepped
+pub mod Laid
+pub mod Runs
+pub mod Starts
+pub mod Ends
+pub mod Lent
+pub mod Equal
+pub mod Stop
+pub mod Unique
+pub mod Labels

@@ -1,0 +1,1 @@
+// The training without an order table: definitions and theorems, no code.

@@ -1,0 +1,11 @@
+use Rattle.picks.proofs.less.Statement.{statement}
+use Rattle.picks.proofs.less.Tie as tie
+
+returns : tie.Need-returns
+returns c = rw (c .if1 .taken)
+
+returns-2 : tie.Need-returns-2
+returns-2 c = rw (c .if1 .left)
+
+pub less-spec : {M : Type 1} → statement M
+less-spec = tie.close (tie.spec returns returns-2)

@@ -1,0 +1,1 @@
+// What the entries answer without an order table: definitions and theorems, no code.
