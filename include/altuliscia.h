@@ -1,32 +1,34 @@
 /* Altuliscia: a support vector machine trainer (SMO on a precomputed kernel: C, nu, one class), as C functions in libaltuliscia.a, for
  * x86-64 and aarch64.
  *
- * Which to call. altuliscia_train_c and its four fellows take doubles and fill a struct: they are the ones to write by hand, and
- * altuliscia_find_pair for who replays one step of a run. They are inline, over the six functions on bytes (altuliscia_c and so on),
- * which are what the archive has, what is proved, and what other languages call. The inline ones are tested, not proved.
+ * Which to call. altuliscia_train_c and its four fellows take doubles and fill a struct: they are the ones to write by hand;
+ * altuliscia_train_c_tuned and so on for who wants another floor of the curvature than 1e-10 (LIBSVM has 1e-12), and
+ * altuliscia_find_pair for who replays one step of a run. They are inline, over functions on bytes (altuliscia_c and so on), which are
+ * what the archive has, what is proved, and what other languages call. The inline ones are tested, not proved.
  *
  * How to use the answer. home[s] is the weight of sample s (its dual coefficient), K(s, x) the kernel value of sample s and something
  * new: the sum over the samples of home[s] * K(s, x), less rho, is the decision. From 0 on x is positive (under one class: of the
  * class), else, NaN too, negative. altuliscia_decide does this sum. altuliscia_c and altuliscia_nu answer weights that are signed by
  * label. Those of altuliscia_general and altuliscia_retired aren't: there each term is to be multiplied by 1 where the label is 1 and
- * by -1 where it is 0, which altuliscia_decide_by_label does. Before an answer is used: the result is 0, the reason is
- * ALTULISCIA_THRESHOLD, rho is finite, and under nu so is r, which isn't 0.
+ * by -1 where it is 0, which altuliscia_decide_by_label does. With a tuning it is the same. Before an answer is used: the result is 0,
+ * the reason is ALTULISCIA_THRESHOLD, rho is finite, and under nu so is r, which isn't 0.
  *
  * Lists on bytes. A slice is a pointer and its length in bytes. A list of n doubles is 8n bytes: each double stands in eight bytes,
  * lowest first, which is how both processors keep a double in memory. The matrix is 8*n*n bytes: the double of column c, row r stands
  * in the eight bytes from 8*(c*n + r); it need not be symmetric. Labels are n bytes, 1 positive, 0 negative; retired bytes are n, 1
- * retired, 0 not. Slices may stand at any address, odd ones too. A slice of length 0 may be NULL. What is written (crate_reading,
- * home, answer) may overlap nothing else that is lent.
+ * retired, 0 not. A tuning is 0 or 8 bytes. Slices may stand at any address, odd ones too. A slice of length 0 may be NULL. What is
+ * written (crate_reading, home, answer) may overlap nothing else that is lent.
  *
  * Numbers. To the functions on bytes eps, cpos, cneg, nu and the nine of altuliscia_pair travel as the uint64_t with the same eight
- * bytes, which altuliscia_bits gives. A float or double handed over in such a place doesn't compile (see 'guards' below). A flag is on when it isn't 0.
+ * bytes, which altuliscia_bits gives. A float or double handed over in such a place doesn't compile (see 'guards' below). The floor
+ * travels in the list `tuning`: (const uint8_t *)&tuning, sizeof tuning, of an altuliscia_tuning. A flag is on when it isn't 0.
  *
  * Results. Where the run is accepted the result is 0: the first 8n bytes of crate_reading and of home hold n doubles each and
  * `answer` holds the answer. Else the result is a refusal's number: `answer` holds it with its index, and both lists stay as they
- * were. Bytes past the first 8n of a list and past the first 72 of `answer` always stay. Where `answer` is shorter than 72 bytes
- * nothing at all is written, and the result is 1 (where n is bad) or 2.
+ * were. Bytes past the first 8n of a list and past the answer's always stay. The answer has 72 bytes, that of altuliscia_c_tuned and its
+ * three fellows 128. Where `answer` is shorter nothing at all is written, and the result is 1 (where n is bad) or 2.
  *
- * crate_reading is the list that the Rust crate linfa-svm answers: place i has the weight at position order[i]. home gives each
+ * crate_reading is the list that the Rust crate linfa-svm answers, or would with that floor for its 1e-10: place i has the weight at position order[i]. home gives each
  * sample the weight that was trained for it: that is the one to ask for a sample's weight. They can differ only where samples were
  * moved and the order isn't its own inverse.
  *
@@ -48,7 +50,7 @@ extern "C" {
 
 /* The version of this header; altuliscia_version tells the library's. docs/STABLE.md has what stays as it is. */
 #define ALTULISCIA_VERSION_MAJOR 1
-#define ALTULISCIA_VERSION_MINOR 2
+#define ALTULISCIA_VERSION_MINOR 3
 #define ALTULISCIA_VERSION_PATCH 0
 
 /* The most samples and the largest budget that are accepted. */
@@ -58,6 +60,9 @@ extern "C" {
 /* A weight counts as support where its magnitude is above this: 100*2^-52, exactly. A list that is made for as many weights as the count says
  * holds these and no others; a decision needs every weight that isn't 0. */
 #define ALTULISCIA_SUPPORT_LIMIT 2.220446049250313e-14
+
+/* The floor of the curvature where no tuning says otherwise, as in linfa-svm. */
+#define ALTULISCIA_USUAL_FLOOR 1e-10
 
 /* What a call needs of the stack at the most, in bytes; and one of an altuliscia_train_.. function, which has room of its own. */
 #define ALTULISCIA_STACK_BYTES 65536
@@ -75,6 +80,9 @@ extern "C" {
 #define ALTULISCIA_AT_REASON 56     /* one of enum altuliscia_reason */
 #define ALTULISCIA_AT_SUPPORT 64    /* how many places of home are above ALTULISCIA_SUPPORT_LIMIT in magnitude; no NaN, no zero is */
 
+/* The answer of the four _tuned functions: these nine, then seven that are 0, for what later versions may tell. */
+#define ALTULISCIA_TUNED_ANSWER_BYTES 128
+
 /* What altuliscia_pair writes: two doubles. */
 #define ALTULISCIA_PAIR_BYTES 16
 
@@ -89,14 +97,15 @@ enum altuliscia_reason {
     ALTULISCIA_ITERATIONS = 1
 };
 
-/* Why a call was refused. The first that applies is given, in the order of the numbers. A number keeps its meaning for good: one
- * that falls out of use is never given to anything else. */
+/* Why a call was refused. The first that applies is given, in the order 1 to 10, 14, 12, 13; 11 comes in the run. A number keeps its
+ * meaning for good: one that falls out of use is never given to anything else. */
 enum altuliscia_refusal {
     ALTULISCIA_ACCEPTED = 0,
     /* The number of samples is 0 or above 512: lend 1 to 512 samples. */
     ALTULISCIA_BAD_SAMPLES = 1,
-    /* A list has the wrong length: lend a matrix of 8*n*n bytes, n labels, n retired bytes, 8n bytes for each list of doubles, an
-     * empty tuning, at least 8n bytes for each result list and at least 72 for the answer. */
+    /* A list has the wrong length: lend a matrix of 8*n*n bytes, n labels, n retired bytes, 8n bytes for each list of doubles, a
+     * tuning of 0 or 8 bytes, at least 8n bytes for each result list and at least 72 for the answer, under the tuned functions
+     * 128. */
     ALTULISCIA_BAD_LENGTH = 2,
     /* A kernel entry is NaN, infinite or above 2^1000 in magnitude: the index is column*n + row; scale the kernel down or mend
      * that entry. */
@@ -121,7 +130,9 @@ enum altuliscia_refusal {
     /* A retired byte is neither 0 nor 1: write 1 for a retired sample, 0 for any other. */
     ALTULISCIA_BAD_RETIRED = 12,
     /* Shrinking is asked for where samples may be retired: train with shrinking off. */
-    ALTULISCIA_RETIRED_SHRINKING = 13
+    ALTULISCIA_RETIRED_SHRINKING = 13,
+    /* The floor of the curvature is NaN, not above 0 or above 1: give a number above 0 and not above 1; the usual one is 1e-10. */
+    ALTULISCIA_BAD_FLOOR = 14
 };
 
 /* Trains from given lists: labels (n bytes), ceilings, start alphas and linear term (8n bytes each), under the C rule or, where
@@ -136,9 +147,8 @@ uint64_t altuliscia_general(size_t n, const uint8_t *matrix, size_t matrix_len, 
  * term 0 (so the start alphas of the others must balance without its own), no pair is chosen with it, rho and obj leave it out, and
  * both lists have +0 for it. What is lent for it (label, ceiling, start alpha, linear term, its row and column of the matrix) is
  * judged as any other's and has no say in the answer. Every sample keeps its number. Shrinking must be off (refusal 13), so both
- * lists are the same and refusal 11 doesn't occur; retired bytes other than 0 and 1 are refusal 12. The order is 1 to 8, 10, 12,
- * 13. `tuning` is a list of eight-byte words for what later versions may be told; this one knows none, so its length is 0, else it
- * is refusal 2. */
+ * lists are the same and refusal 11 doesn't occur; retired bytes other than 0 and 1 are refusal 12. The order is 1 to 8, 10, 14, 12,
+ * 13. `tuning` is what the _tuned functions below have; the answer is of 72 bytes all the same. */
 uint64_t altuliscia_retired(size_t n, const uint8_t *matrix, size_t matrix_len, const uint8_t *labels, size_t labels_len,
                             const uint8_t *ceilings, size_t ceilings_len, const uint8_t *alphas, size_t alphas_len,
                             const uint8_t *linear, size_t linear_len, const uint8_t *retired, size_t retired_len, uint8_t nu_rule,
@@ -163,11 +173,43 @@ uint64_t altuliscia_one_class(size_t n, const uint8_t *matrix, size_t matrix_len
                               uint64_t budget, uint8_t *crate_reading, size_t crate_reading_len, uint8_t *home, size_t home_len,
                               uint8_t *answer, size_t answer_len);
 
+/* Each of these four is the function without _tuned, but for `tuning` and a longer answer.
+ *
+ * `tuning` is a list of eight-byte words, lowest byte first. Word 0 is the floor, a double above 0 and not above 1, else it is refusal
+ * 14. It stands for the curvature of a pair, K_ii + K_jj less twice K_ij, where that isn't above 0: where pairs are weighed against
+ * each other, and in the step, which is divided by it before it is clipped. So a smaller floor takes longer steps along flat
+ * directions; where every curvature is above 0 it has no say. The usual one is ALTULISCIA_USUAL_FLOOR; LIBSVM has 1e-12. A word that
+ * isn't there has its usual value: with a tuning of length 0 the run is that of the function without _tuned. This version knows that
+ * one word; a length other than 0 and 8 is refusal 2. Later versions may know more words behind it.
+ *
+ * `answer` is of ALTULISCIA_TUNED_ANSWER_BYTES: the nine numbers as ever, then seven that are 0. */
+uint64_t altuliscia_general_tuned(size_t n, const uint8_t *matrix, size_t matrix_len, const uint8_t *labels, size_t labels_len,
+                                  const uint8_t *ceilings, size_t ceilings_len, const uint8_t *alphas, size_t alphas_len,
+                                  const uint8_t *linear, size_t linear_len, uint8_t nu_rule, uint64_t eps, uint8_t shrinking,
+                                  uint64_t budget, const uint8_t *tuning, size_t tuning_len, uint8_t *crate_reading,
+                                  size_t crate_reading_len, uint8_t *home, size_t home_len, uint8_t *answer, size_t answer_len);
+
+uint64_t altuliscia_c_tuned(size_t n, const uint8_t *matrix, size_t matrix_len, const uint8_t *labels, size_t labels_len,
+                            uint64_t cpos, uint64_t cneg, uint64_t eps, uint8_t shrinking, uint64_t budget, const uint8_t *tuning,
+                            size_t tuning_len, uint8_t *crate_reading, size_t crate_reading_len, uint8_t *home, size_t home_len,
+                            uint8_t *answer, size_t answer_len);
+
+uint64_t altuliscia_nu_tuned(size_t n, const uint8_t *matrix, size_t matrix_len, const uint8_t *labels, size_t labels_len,
+                             uint64_t nu, uint64_t eps, uint8_t shrinking, uint64_t budget, const uint8_t *tuning,
+                             size_t tuning_len, uint8_t *crate_reading, size_t crate_reading_len, uint8_t *home, size_t home_len,
+                             uint8_t *answer, size_t answer_len);
+
+uint64_t altuliscia_one_class_tuned(size_t n, const uint8_t *matrix, size_t matrix_len, uint64_t nu, uint64_t eps,
+                                    uint8_t shrinking, uint64_t budget, const uint8_t *tuning, size_t tuning_len,
+                                    uint8_t *crate_reading, size_t crate_reading_len, uint8_t *home, size_t home_len,
+                                    uint8_t *answer, size_t answer_len);
+
 /* What one step of a run leaves of two weights, those of samples i and j: for who replays the steps that a weight went through. A
  * sample has a weight, its ceiling, its gradient and its diagonal (the kernel value of itself). `entry` is the kernel value of column i,
  * row j where the labels of i and j agree, which `agree` says, and its negative where they don't. Written to `pair`, in its first 16
  * bytes: the double that is left of weight i, then that of weight j. The result is 0; where `pair` is shorter than 16 bytes it is 2 and
- * nothing is written. No number is refused: NaN and infinities go through the step's comparisons as any other. */
+ * nothing is written. No number is refused: NaN and infinities go through the step's comparisons as any other. The floor is the usual
+ * one. */
 uint64_t altuliscia_pair(uint64_t weight_i, uint64_t ceiling_i, uint64_t weight_j, uint64_t ceiling_j, uint64_t gradient_i,
                          uint64_t gradient_j, uint64_t diagonal_i, uint64_t diagonal_j, uint64_t entry, uint8_t agree, uint8_t *pair,
                          size_t pair_len);
@@ -205,6 +247,25 @@ typedef struct altuliscia_result {
     uint64_t support;    /* how many places of home are above ALTULISCIA_SUPPORT_LIMIT in magnitude; no NaN, no zero is */
 } altuliscia_result;
 typedef char altuliscia_result_has_72_bytes[sizeof(altuliscia_result) == ALTULISCIA_ANSWER_BYTES ? 1 : -1];
+
+/* The sixteen numbers of a _tuned function, as they stand in its 128 bytes. */
+typedef struct altuliscia_tuned_result {
+    altuliscia_result result; /* what altuliscia_usable takes */
+    uint64_t later[7];        /* 0 in this version; a later one may fill them, so don't rely on it */
+} altuliscia_tuned_result;
+typedef char altuliscia_tuned_result_has_128_bytes[sizeof(altuliscia_tuned_result) == ALTULISCIA_TUNED_ANSWER_BYTES ? 1 : -1];
+
+/* What a run may be told beside its options. Later versions add fields at the end: so begin with altuliscia_usual_tuning() and set
+ * what is to be other. */
+typedef struct altuliscia_tuning {
+    double floor; /* stands for a curvature that isn't above 0; above 0 and not above 1 */
+} altuliscia_tuning;
+typedef char altuliscia_tuning_has_8_bytes[sizeof(altuliscia_tuning) == 8 ? 1 : -1];
+
+static inline altuliscia_tuning altuliscia_usual_tuning(void) {
+    altuliscia_tuning usual = {ALTULISCIA_USUAL_FLOOR};
+    return usual;
+}
 
 /* The eight bytes of a double, as a number. */
 static inline uint64_t altuliscia_bits(double x) {
@@ -257,16 +318,66 @@ static inline uint64_t altuliscia_train_general(size_t n, const double *matrix, 
                               ALTULISCIA_WRITTEN(result, 9u));
 }
 
-/* The tuning is empty, and shrinking, which must be off, isn't asked for. */
+/* Each altuliscia_train_X_tuned is altuliscia_X_tuned in the same way. A tuning that is NULL counts as one of length 0: then the run is
+ * that of altuliscia_train_X. altuliscia_train_retired_tuned, further down, is altuliscia_retired and has the shorter answer. */
+static inline uint64_t altuliscia_train_c_tuned(size_t n, const double *matrix, const uint8_t *labels, double cpos, double cneg,
+                                                double eps, int shrinking, uint64_t budget, const altuliscia_tuning *tuning,
+                                                double *crate_reading, double *home, altuliscia_tuned_result *result) {
+    double room[ALTULISCIA_MOST_SAMPLES], *crate = crate_reading ? crate_reading : room;
+    return altuliscia_c_tuned(n, ALTULISCIA_READ(matrix, n * n), ALTULISCIA_MARKS(labels, n), altuliscia_bits(cpos),
+                              altuliscia_bits(cneg), altuliscia_bits(eps), shrinking != 0, budget, ALTULISCIA_READ(tuning, 1u),
+                              ALTULISCIA_WRITTEN(crate, n), ALTULISCIA_WRITTEN(home, n), ALTULISCIA_WRITTEN(result, 16u));
+}
+
+static inline uint64_t altuliscia_train_nu_tuned(size_t n, const double *matrix, const uint8_t *labels, double nu, double eps,
+                                                 int shrinking, uint64_t budget, const altuliscia_tuning *tuning,
+                                                 double *crate_reading, double *home, altuliscia_tuned_result *result) {
+    double room[ALTULISCIA_MOST_SAMPLES], *crate = crate_reading ? crate_reading : room;
+    return altuliscia_nu_tuned(n, ALTULISCIA_READ(matrix, n * n), ALTULISCIA_MARKS(labels, n), altuliscia_bits(nu),
+                               altuliscia_bits(eps), shrinking != 0, budget, ALTULISCIA_READ(tuning, 1u),
+                               ALTULISCIA_WRITTEN(crate, n), ALTULISCIA_WRITTEN(home, n), ALTULISCIA_WRITTEN(result, 16u));
+}
+
+static inline uint64_t altuliscia_train_one_class_tuned(size_t n, const double *matrix, double nu, double eps, int shrinking,
+                                                        uint64_t budget, const altuliscia_tuning *tuning, double *crate_reading,
+                                                        double *home, altuliscia_tuned_result *result) {
+    double room[ALTULISCIA_MOST_SAMPLES], *crate = crate_reading ? crate_reading : room;
+    return altuliscia_one_class_tuned(n, ALTULISCIA_READ(matrix, n * n), altuliscia_bits(nu), altuliscia_bits(eps),
+                                      shrinking != 0, budget, ALTULISCIA_READ(tuning, 1u), ALTULISCIA_WRITTEN(crate, n),
+                                      ALTULISCIA_WRITTEN(home, n), ALTULISCIA_WRITTEN(result, 16u));
+}
+
+static inline uint64_t altuliscia_train_general_tuned(size_t n, const double *matrix, const uint8_t *labels,
+                                                      const double *ceilings, const double *alphas, const double *linear,
+                                                      int nu_rule, double eps, int shrinking, uint64_t budget,
+                                                      const altuliscia_tuning *tuning, double *crate_reading, double *home,
+                                                      altuliscia_tuned_result *result) {
+    double room[ALTULISCIA_MOST_SAMPLES], *crate = crate_reading ? crate_reading : room;
+    return altuliscia_general_tuned(n, ALTULISCIA_READ(matrix, n * n), ALTULISCIA_MARKS(labels, n), ALTULISCIA_READ(ceilings, n),
+                                    ALTULISCIA_READ(alphas, n), ALTULISCIA_READ(linear, n), nu_rule != 0, altuliscia_bits(eps),
+                                    shrinking != 0, budget, ALTULISCIA_READ(tuning, 1u), ALTULISCIA_WRITTEN(crate, n),
+                                    ALTULISCIA_WRITTEN(home, n), ALTULISCIA_WRITTEN(result, 16u));
+}
+
+/* Shrinking, which must be off, isn't asked for. */
+static inline uint64_t altuliscia_train_retired_tuned(size_t n, const double *matrix, const uint8_t *labels,
+                                                      const double *ceilings, const double *alphas, const double *linear,
+                                                      const uint8_t *retired, int nu_rule, double eps, uint64_t budget,
+                                                      const altuliscia_tuning *tuning, double *crate_reading, double *home,
+                                                      altuliscia_result *result) {
+    double room[ALTULISCIA_MOST_SAMPLES], *crate = crate_reading ? crate_reading : room;
+    return altuliscia_retired(n, ALTULISCIA_READ(matrix, n * n), ALTULISCIA_MARKS(labels, n), ALTULISCIA_READ(ceilings, n),
+                              ALTULISCIA_READ(alphas, n), ALTULISCIA_READ(linear, n), ALTULISCIA_MARKS(retired, n), nu_rule != 0,
+                              altuliscia_bits(eps), 0, budget, ALTULISCIA_READ(tuning, 1u), ALTULISCIA_WRITTEN(crate, n),
+                              ALTULISCIA_WRITTEN(home, n), ALTULISCIA_WRITTEN(result, 9u));
+}
+
 static inline uint64_t altuliscia_train_retired(size_t n, const double *matrix, const uint8_t *labels, const double *ceilings,
                                                 const double *alphas, const double *linear, const uint8_t *retired, int nu_rule,
                                                 double eps, uint64_t budget, double *crate_reading, double *home,
                                                 altuliscia_result *result) {
-    double room[ALTULISCIA_MOST_SAMPLES], *crate = crate_reading ? crate_reading : room;
-    return altuliscia_retired(n, ALTULISCIA_READ(matrix, n * n), ALTULISCIA_MARKS(labels, n), ALTULISCIA_READ(ceilings, n),
-                              ALTULISCIA_READ(alphas, n), ALTULISCIA_READ(linear, n), ALTULISCIA_MARKS(retired, n), nu_rule != 0,
-                              altuliscia_bits(eps), 0, budget, NULL, 0, ALTULISCIA_WRITTEN(crate, n),
-                              ALTULISCIA_WRITTEN(home, n), ALTULISCIA_WRITTEN(result, 9u));
+    return altuliscia_train_retired_tuned(n, matrix, labels, ceilings, alphas, linear, retired, nu_rule, eps, budget, NULL,
+                                          crate_reading, home, result);
 }
 
 /* The weights of i and j after a step. */
@@ -344,24 +455,28 @@ static inline double altuliscia_decide_by_label(size_t n, const double *home, co
 #endif
 #if defined(ALTULISCIA_GUARDS) && !defined(ALTULISCIA_UNGUARDED)
 #define ALTULISCIA_BITS_WANTED(x) ((x) | 0)
-#define altuliscia_general(...) ALTULISCIA_GUARDED_GENERAL(__VA_ARGS__)
+#define altuliscia_general(...) ALTULISCIA_GUARDED_GENERAL(altuliscia_general, __VA_ARGS__)
+#define altuliscia_general_tuned(...) ALTULISCIA_GUARDED_GENERAL(altuliscia_general_tuned, __VA_ARGS__)
 #define altuliscia_retired(...) ALTULISCIA_GUARDED_RETIRED(__VA_ARGS__)
-#define altuliscia_c(...) ALTULISCIA_GUARDED_C(__VA_ARGS__)
-#define altuliscia_nu(...) ALTULISCIA_GUARDED_NU(__VA_ARGS__)
-#define altuliscia_one_class(...) ALTULISCIA_GUARDED_ONE_CLASS(__VA_ARGS__)
+#define altuliscia_c(...) ALTULISCIA_GUARDED_C(altuliscia_c, __VA_ARGS__)
+#define altuliscia_c_tuned(...) ALTULISCIA_GUARDED_C(altuliscia_c_tuned, __VA_ARGS__)
+#define altuliscia_nu(...) ALTULISCIA_GUARDED_NU(altuliscia_nu, __VA_ARGS__)
+#define altuliscia_nu_tuned(...) ALTULISCIA_GUARDED_NU(altuliscia_nu_tuned, __VA_ARGS__)
+#define altuliscia_one_class(...) ALTULISCIA_GUARDED_ONE_CLASS(altuliscia_one_class, __VA_ARGS__)
+#define altuliscia_one_class_tuned(...) ALTULISCIA_GUARDED_ONE_CLASS(altuliscia_one_class_tuned, __VA_ARGS__)
 #define altuliscia_pair(...) ALTULISCIA_GUARDED_PAIR(__VA_ARGS__)
-#define ALTULISCIA_GUARDED_GENERAL(n, m, m_len, l, l_len, c, c_len, a, a_len, p, p_len, nu_rule, eps, ...) \
-    altuliscia_general(n, m, m_len, l, l_len, c, c_len, a, a_len, p, p_len, nu_rule, ALTULISCIA_BITS_WANTED(eps), __VA_ARGS__)
+#define ALTULISCIA_GUARDED_GENERAL(name, n, m, m_len, l, l_len, c, c_len, a, a_len, p, p_len, nu_rule, eps, ...) \
+    name(n, m, m_len, l, l_len, c, c_len, a, a_len, p, p_len, nu_rule, ALTULISCIA_BITS_WANTED(eps), __VA_ARGS__)
 #define ALTULISCIA_GUARDED_RETIRED(n, m, m_len, l, l_len, c, c_len, a, a_len, p, p_len, r, r_len, nu_rule, eps, ...) \
     altuliscia_retired(n, m, m_len, l, l_len, c, c_len, a, a_len, p, p_len, r, r_len, nu_rule, ALTULISCIA_BITS_WANTED(eps), \
                        __VA_ARGS__)
-#define ALTULISCIA_GUARDED_C(n, m, m_len, l, l_len, cpos, cneg, eps, ...) \
-    altuliscia_c(n, m, m_len, l, l_len, ALTULISCIA_BITS_WANTED(cpos), ALTULISCIA_BITS_WANTED(cneg), ALTULISCIA_BITS_WANTED(eps), \
-                 __VA_ARGS__)
-#define ALTULISCIA_GUARDED_NU(n, m, m_len, l, l_len, nu, eps, ...) \
-    altuliscia_nu(n, m, m_len, l, l_len, ALTULISCIA_BITS_WANTED(nu), ALTULISCIA_BITS_WANTED(eps), __VA_ARGS__)
-#define ALTULISCIA_GUARDED_ONE_CLASS(n, m, m_len, nu, eps, ...) \
-    altuliscia_one_class(n, m, m_len, ALTULISCIA_BITS_WANTED(nu), ALTULISCIA_BITS_WANTED(eps), __VA_ARGS__)
+#define ALTULISCIA_GUARDED_C(name, n, m, m_len, l, l_len, cpos, cneg, eps, ...) \
+    name(n, m, m_len, l, l_len, ALTULISCIA_BITS_WANTED(cpos), ALTULISCIA_BITS_WANTED(cneg), ALTULISCIA_BITS_WANTED(eps), \
+         __VA_ARGS__)
+#define ALTULISCIA_GUARDED_NU(name, n, m, m_len, l, l_len, nu, eps, ...) \
+    name(n, m, m_len, l, l_len, ALTULISCIA_BITS_WANTED(nu), ALTULISCIA_BITS_WANTED(eps), __VA_ARGS__)
+#define ALTULISCIA_GUARDED_ONE_CLASS(name, n, m, m_len, nu, eps, ...) \
+    name(n, m, m_len, ALTULISCIA_BITS_WANTED(nu), ALTULISCIA_BITS_WANTED(eps), __VA_ARGS__)
 #define ALTULISCIA_GUARDED_PAIR(ai, bi, aj, bj, gi, gj, di, dj, entry, ...) \
     altuliscia_pair(ALTULISCIA_BITS_WANTED(ai), ALTULISCIA_BITS_WANTED(bi), ALTULISCIA_BITS_WANTED(aj), \
                     ALTULISCIA_BITS_WANTED(bj), ALTULISCIA_BITS_WANTED(gi), ALTULISCIA_BITS_WANTED(gj), \

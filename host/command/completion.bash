@@ -9,10 +9,10 @@ _altuliscia() {
             -s) offered='0 1 2' ;;
             -t) offered=4 ;;
             -h) offered='0 1' ;;
-            -c | -n | -e | -w* | --budget | --sample) return ;;
+            -c | -n | -e | -w* | --budget | --floor | --sample) return ;;
             --retired | --captions) ;;
             *)
-                [[ $word != -* ]] || offered='-s -c -w1 -w-1 -n -e -h --budget --retired -t -q --help'
+                [[ $word != -* ]] || offered='-s -c -w1 -w-1 -n -e -h --budget --floor --retired -t -q --help'
                 [ -z "$offered" ] || [ "${COMP_WORDS[1]}" != trail ] || offered="--sample --captions $offered"
                 ;;
         esac

@@ -8,13 +8,13 @@ case $words[CURRENT-1] in
     -s) compadd 0 1 2 ;;
     -t) compadd 4 ;;
     -h) compadd 0 1 ;;
-    -c|-n|-e|-w*|--budget|--sample) ;;
+    -c|-n|-e|-w*|--budget|--floor|--sample) ;;
     --retired|--captions) _files ;;
     *)
         if [[ $words[CURRENT] != -* ]]; then
             _files
         else
-            compadd -- -s -c -w1 -w-1 -n -e -h --budget --retired -t -q --help
+            compadd -- -s -c -w1 -w-1 -n -e -h --budget --floor --retired -t -q --help
             if [[ $words[2] == trail ]]; then compadd -- --sample --captions; fi
         fi
         ;;

@@ -1,6 +1,6 @@
 /* Makes each drawn call twice, by altuliscia_train_X and by altuliscia_X, and compares what is returned and every byte that is written;
- * so with drawn steps, by altuliscia_find_pair and altuliscia_pair. Then what only the former can be handed. C99 and C++98. The exit
- * status is 1 where anything differs. */
+ * so with a drawn tuning, and with drawn steps, by altuliscia_find_pair and altuliscia_pair. Then what only the former can be handed. C99
+ * and C++98. The exit status is 1 where anything differs. */
 #include "altuliscia.h"
 
 #include <stdio.h>
@@ -12,10 +12,10 @@ static double matrix[MOST * MOST], ceilings[MOST], alphas[MOST], linear[MOST];
 static uint8_t labels[MOST], retired[MOST];
 static uint64_t state;
 
-/* What a call writes. */
+/* What a call writes; without a tuning it is only the first part of the answer. */
 struct written {
     double crate_reading[MOST + 1], home[MOST + 1];
-    altuliscia_result result;
+    altuliscia_tuned_result answer;
     uint64_t returned;
 };
 static struct written with_doubles, with_bytes;
@@ -31,8 +31,11 @@ static double cost(void) {
     return below(12) ? (double)(1 + below(8)) / 4 : odd[below(4)];
 }
 
-static void fill(size_t n) {
+/* Points of two whole numbers, and the products of them as kernel. Where it is to be flat it is small, and the second numbers count
+ * against the first: so many a curvature isn't above 0. */
+static void fill(size_t n, int flat) {
     static double points[MOST][2];
+    double scale = flat ? 0.015625 : 1, second = flat ? -1 : 1;
     for (size_t k = 0; k < n; k++) {
         points[k][0] = (double)below(9) - 4;
         points[k][1] = (double)below(9) - 4;
@@ -44,61 +47,115 @@ static void fill(size_t n) {
     }
     for (size_t c = 0; c < n; c++)
         for (size_t r = 0; r < n; r++)
-            matrix[c * n + r] = points[c][0] * points[r][0] + points[c][1] * points[r][1];
+            matrix[c * n + r] = (points[c][0] * points[r][0] + second * points[c][1] * points[r][1]) * scale;
 }
 
-#define READ(list) (const uint8_t *)(list)
-#define LISTS (uint8_t *)b->crate_reading, 8 * n, (uint8_t *)b->home, 8 * n, (uint8_t *)&b->result, 72
+/* What a call is handed beside the lists. */
+struct given {
+    size_t n;
+    double x, y, eps;
+    uint64_t budget;
+    uint8_t on, rule;
+    const altuliscia_tuning *tuning;
+};
 
-static void call(int which, size_t n, double x, double y, double eps, uint64_t budget) {
+#define READ(list) (const uint8_t *)(list)
+#define LISTS(bytes) (uint8_t *)b->crate_reading, 8 * n, (uint8_t *)b->home, 8 * n, (uint8_t *)&b->answer, bytes
+
+static void call(int which, const struct given *g) {
     struct written *a = &with_doubles, *b = &with_bytes;
-    double *crate = a->crate_reading;
-    size_t square = 8 * n * n, list = 8 * n;
-    uint64_t bx = altuliscia_bits(x), by = altuliscia_bits(y), be = altuliscia_bits(eps);
-    uint8_t on = (uint8_t)below(2), rule = (uint8_t)below(2);
+    double *crate = a->crate_reading, *home = a->home;
+    altuliscia_result *result = &a->answer.result;
+    size_t n = g->n, square = 8 * n * n, list = 8 * n;
+    uint64_t x = altuliscia_bits(g->x), y = altuliscia_bits(g->y), eps = altuliscia_bits(g->eps);
     switch (which) {
     case 0:
-        a->returned = altuliscia_train_c(n, matrix, labels, x, y, eps, on, budget, crate, a->home, &a->result);
-        b->returned = altuliscia_c(n, READ(matrix), square, labels, n, bx, by, be, on, budget, LISTS);
+        a->returned = altuliscia_train_c(n, matrix, labels, g->x, g->y, g->eps, g->on, g->budget, crate, home, result);
+        b->returned = altuliscia_c(n, READ(matrix), square, labels, n, x, y, eps, g->on, g->budget, LISTS(72));
         break;
     case 1:
-        a->returned = altuliscia_train_nu(n, matrix, labels, x, eps, on, budget, crate, a->home, &a->result);
-        b->returned = altuliscia_nu(n, READ(matrix), square, labels, n, bx, be, on, budget, LISTS);
+        a->returned = altuliscia_train_nu(n, matrix, labels, g->x, g->eps, g->on, g->budget, crate, home, result);
+        b->returned = altuliscia_nu(n, READ(matrix), square, labels, n, x, eps, g->on, g->budget, LISTS(72));
         break;
     case 2:
-        a->returned = altuliscia_train_one_class(n, matrix, x, eps, on, budget, crate, a->home, &a->result);
-        b->returned = altuliscia_one_class(n, READ(matrix), square, bx, be, on, budget, LISTS);
+        a->returned = altuliscia_train_one_class(n, matrix, g->x, g->eps, g->on, g->budget, crate, home, result);
+        b->returned = altuliscia_one_class(n, READ(matrix), square, x, eps, g->on, g->budget, LISTS(72));
         break;
     case 3:
-        a->returned = altuliscia_train_general(n, matrix, labels, ceilings, alphas, linear, rule, eps, on, budget, crate, a->home,
-                                               &a->result);
+        a->returned = altuliscia_train_general(n, matrix, labels, ceilings, alphas, linear, g->rule, g->eps, g->on, g->budget, crate,
+                                               home, result);
         b->returned = altuliscia_general(n, READ(matrix), square, labels, n, READ(ceilings), list, READ(alphas), list, READ(linear),
-                                         list, rule, be, on, budget, LISTS);
+                                         list, g->rule, eps, g->on, g->budget, LISTS(72));
         break;
     default:
-        a->returned = altuliscia_train_retired(n, matrix, labels, ceilings, alphas, linear, retired, rule, eps, budget, crate,
-                                               a->home, &a->result);
+        a->returned = altuliscia_train_retired(n, matrix, labels, ceilings, alphas, linear, retired, g->rule, g->eps, g->budget,
+                                               crate, home, result);
         b->returned = altuliscia_retired(n, READ(matrix), square, labels, n, READ(ceilings), list, READ(alphas), list, READ(linear),
-                                         list, retired, n, rule, be, 0, budget, NULL, 0, LISTS);
+                                         list, retired, n, g->rule, eps, 0, g->budget, NULL, 0, LISTS(72));
     }
 }
 
-/* Whether both wrote the same; the double behind the n-th is as it was. */
+static void call_tuned(int which, const struct given *g) {
+    struct written *a = &with_doubles, *b = &with_bytes;
+    double *crate = a->crate_reading, *home = a->home;
+    altuliscia_tuned_result *answer = &a->answer;
+    const altuliscia_tuning *t = g->tuning;
+    size_t n = g->n, square = 8 * n * n, list = 8 * n, words = t ? 8 : 0;
+    uint64_t x = altuliscia_bits(g->x), y = altuliscia_bits(g->y), eps = altuliscia_bits(g->eps);
+    switch (which) {
+    case 0:
+        a->returned = altuliscia_train_c_tuned(n, matrix, labels, g->x, g->y, g->eps, g->on, g->budget, t, crate, home, answer);
+        b->returned = altuliscia_c_tuned(n, READ(matrix), square, labels, n, x, y, eps, g->on, g->budget, READ(t), words, LISTS(128));
+        break;
+    case 1:
+        a->returned = altuliscia_train_nu_tuned(n, matrix, labels, g->x, g->eps, g->on, g->budget, t, crate, home, answer);
+        b->returned = altuliscia_nu_tuned(n, READ(matrix), square, labels, n, x, eps, g->on, g->budget, READ(t), words, LISTS(128));
+        break;
+    case 2:
+        a->returned = altuliscia_train_one_class_tuned(n, matrix, g->x, g->eps, g->on, g->budget, t, crate, home, answer);
+        b->returned = altuliscia_one_class_tuned(n, READ(matrix), square, x, eps, g->on, g->budget, READ(t), words, LISTS(128));
+        break;
+    case 3:
+        a->returned = altuliscia_train_general_tuned(n, matrix, labels, ceilings, alphas, linear, g->rule, g->eps, g->on, g->budget, t,
+                                                     crate, home, answer);
+        b->returned = altuliscia_general_tuned(n, READ(matrix), square, labels, n, READ(ceilings), list, READ(alphas), list,
+                                               READ(linear), list, g->rule, eps, g->on, g->budget, READ(t), words, LISTS(128));
+        break;
+    default:
+        a->returned = altuliscia_train_retired_tuned(n, matrix, labels, ceilings, alphas, linear, retired, g->rule, g->eps, g->budget,
+                                                     t, crate, home, &answer->result);
+        b->returned = altuliscia_retired(n, READ(matrix), square, labels, n, READ(ceilings), list, READ(alphas), list, READ(linear),
+                                         list, retired, n, g->rule, eps, 0, g->budget, READ(t), words, LISTS(72));
+    }
+}
+
+/* Whether both wrote the same; the double behind the n-th is as it was, and so is what lies behind the answer. */
 static int alike(void) {
     return with_doubles.returned == with_bytes.returned && memcmp(&with_doubles, &with_bytes, sizeof with_bytes) == 0;
+}
+
+static void paint(void) {
+    memset(&with_doubles, 0xa5, sizeof with_doubles);
+    memset(&with_bytes, 0xa5, sizeof with_bytes);
+}
+
+/* The k-th call, without a tuning. */
+static struct given draw(int k, int flat) {
+    size_t n = k == 0 ? (size_t)MOST : k == 1 ? 0 : 1 + below(24);
+    fill(n, flat);
+    double x = cost(), y = cost(), eps = below(20) ? 0.001 : -1;
+    uint64_t budget = below(20) ? 1 + below(300) : 0;
+    uint8_t on = (uint8_t)below(2), rule = (uint8_t)below(2);
+    struct given g = {n, x, y, eps, budget, on, rule, NULL};
+    return g;
 }
 
 static int drawn(void) {
     int accepted = 0;
     for (int k = 0; k < RUNS; k++) {
-        size_t n = k == 1 ? 0 : 1 + below(24);
-        if (k == 0)
-            n = MOST;
-        fill(n);
-        memset(&with_doubles, 0xa5, sizeof with_doubles);
-        memset(&with_bytes, 0xa5, sizeof with_bytes);
-        double x = cost(), y = cost(), eps = below(20) ? 0.001 : -1;
-        call(k % FUNCTIONS, n, x, y, eps, below(20) ? 1 + below(300) : 0);
+        struct given g = draw(k, 0);
+        paint();
+        call(k % FUNCTIONS, &g);
         if (!alike()) {
             printf("run %d differs\n", k);
             return 1;
@@ -107,6 +164,63 @@ static int drawn(void) {
     }
     printf("%d calls alike, %s\n", RUNS, accepted > RUNS / 2 && accepted < RUNS ? "accepted and refused ones" : "too few of a kind");
     return !(accepted > RUNS / 2 && accepted < RUNS);
+}
+
+/* Whether a tuned call wrote what the call without a tuning, which was made last, has; behind that only zeros, and with retired samples
+ * nothing. */
+static int as_without(const struct written *tuned, int which) {
+    struct written expected = with_bytes;
+    if (which < 4)
+        memset(expected.answer.later, 0, sizeof expected.answer.later);
+    return memcmp(tuned, &expected, sizeof expected) == 0;
+}
+
+/* What became of a tuned call beside the same without a tuning: refused before its floor is judged; by the usual floor; by a bad one; by
+ * another one, with another answer or the same. */
+enum { DIFFERS, EARLIER, USUAL, BAD, OTHER, NO_OTHER, OUTCOMES };
+
+static int outcome(int which, const struct given *g) {
+    static struct written tuned;
+    double floor = g->tuning ? g->tuning->floor : ALTULISCIA_USUAL_FLOOR;
+    paint();
+    call_tuned(which, g);
+    if (!alike())
+        return DIFFERS;
+    tuned = with_bytes;
+    paint();
+    call(which, g);
+    int same = as_without(&tuned, which);
+    if (with_bytes.returned != ALTULISCIA_ACCEPTED && with_bytes.returned != ALTULISCIA_SHRUNK_AWAY)
+        return same ? EARLIER : DIFFERS;
+    if (floor == ALTULISCIA_USUAL_FLOOR)
+        return same ? USUAL : DIFFERS;
+    if (!(floor > 0 && floor <= 1))
+        return tuned.returned == ALTULISCIA_BAD_FLOOR ? BAD : DIFFERS;
+    return same ? NO_OTHER : OTHER;
+}
+
+static int tunings(void) {
+    static const double floors[] = {ALTULISCIA_USUAL_FLOOR, 1e-12, 1e-3, 0.5, 1, 0, -1, 1.0000000000000002};
+    int counts[FUNCTIONS][OUTCOMES] = {{0}}, few = 0;
+    for (int k = 0; k < RUNS; k++) {
+        struct given g = draw(k, 1);
+        altuliscia_tuning tuning = altuliscia_usual_tuning();
+        if (below(9)) {
+            tuning.floor = floors[below(8)];
+            g.tuning = &tuning;
+        }
+        int found = outcome(k % FUNCTIONS, &g);
+        if (found == DIFFERS) {
+            printf("tuned run %d differs\n", k);
+            return 1;
+        }
+        counts[k % FUNCTIONS][found]++;
+    }
+    for (int which = 0; which < FUNCTIONS; which++)
+        for (int found = EARLIER; found < OUTCOMES; found++)
+            few |= counts[which][found] < 10;
+    printf("%d tuned calls alike, %s\n", RUNS, few ? "too few of a kind" : "of each kind some");
+    return few;
 }
 
 /* Steps of which each number is drawn from what a run may meet and from what it never does. */
@@ -194,9 +308,36 @@ static void odd(void) {
     expect("signed by label", altuliscia_decide_by_label(2, both, y, 0.125, row) == 0.125);
 }
 
+/* The same with a tuning. */
+static void odd_tuned(void) {
+    const double m[] = {1, 0, 0, 1}, d[] = {1, 1};
+    const uint8_t y[] = {1, 0}, nobody[] = {0, 0};
+    double home[2];
+    altuliscia_tuned_result answer;
+    altuliscia_result shorter;
+    altuliscia_tuning t = altuliscia_usual_tuning();
+    expect("the usual floor", t.floor == 1e-10);
+    expect("no matrix is 2", altuliscia_train_c_tuned(2, NULL, y, 1, 1, 0, 0, 10, &t, NULL, home, &answer) == 2);
+    expect("no labels is 2", altuliscia_train_nu_tuned(2, m, NULL, 1, 0, 0, 10, &t, NULL, home, &answer) == 2);
+    expect("no home is 2", altuliscia_train_one_class_tuned(2, m, 1, 0, 0, 10, &t, NULL, NULL, &answer) == 2);
+    expect("no result is 2", altuliscia_train_general_tuned(2, m, y, d, d, d, 0, 0, 0, 10, &t, NULL, home, NULL) == 2);
+    expect("no retired is 2", altuliscia_train_retired_tuned(2, m, y, d, d, d, NULL, 0, 0, 10, &t, NULL, home, &shorter) == 2);
+    expect("513 is 1", altuliscia_train_c_tuned(513, m, y, 1, 1, 0, 0, 10, &t, NULL, home, &answer) == 1);
+    altuliscia_train_general_tuned(2, m, y, d, d, d, 256, 0, 0, 10, NULL, NULL, home, &answer);
+    expect("a rule of 256 is on", answer.result.refusal == 0 && answer.result.has_r && answer.later[0] == 0 && answer.later[6] == 0);
+    altuliscia_train_c_tuned(2, m, y, 1, 1, 0.001, 0, 10, NULL, NULL, home, &answer);
+    expect("usable", altuliscia_usable(&answer.result) && home[0] == 1 && home[1] == -1);
+    t.floor = 0;
+    altuliscia_train_c_tuned(2, m, y, 1, 1, 0.001, 0, 10, &t, NULL, home, &answer);
+    expect("not where refused", answer.result.refusal == ALTULISCIA_BAD_FLOOR && !altuliscia_usable(&answer.result));
+    expect("14", altuliscia_train_retired_tuned(2, m, y, d, d, d, nobody, 0, 0, 10, &t, NULL, home, &shorter) == 14);
+}
+
 int main(void) {
     int differ = drawn();
+    differ |= tunings();
     differ |= steps();
     odd();
+    odd_tuned();
     return differ || failed;
 }

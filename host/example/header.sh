@@ -3,16 +3,17 @@
 #
 #   host/example/header.sh [ARCHIVE]
 #
-# What must compile (kept.c, example.c, alike.c), what must not (wrong.c), and, where an archive for this machine is given, that the
-# programs run as expected. A compiler that is missing is told by a line 'NOT RUN: ..'.
+# What must compile (kept.c, example.c, alike.c, tuned.c), what must not (wrong.c), and, where an archive for this machine is given, that
+# the programs run as expected. A compiler that is missing is told by a line 'NOT RUN: ..'.
 set -euo pipefail
 [ $# = 0 ] || archive=$(realpath -- "$1")
 cd "$(dirname "$0")/../.."
 made=$(mktemp -d)
 trap 'rm -rf "$made"' EXIT
 strict='-Wall -Wextra -Werror -pedantic -Wconversion -Wshadow -Iinclude'
-bits=$(echo -DB{1..18}=w)
-lists=$(echo -DL{1..5}=d)
+bits=$(echo -DB{1..26}=w)
+lists=$(echo -DL{1..10}=d)
+tunings=$(echo -DT{1..5}=t -DR{1..4}=r)
 tried=0
 
 # must COMMAND: it succeeds.
@@ -41,26 +42,31 @@ compiled() {
     must $compile/kept.c -DALTULISCIA_UNGUARDED
     [ "$2" != c89 ] || return 0
     must $compile/example.c
-    must $compile/wrong.c $bits $lists
-    for place in B{1..18}; do
-        for wrong in x f; do must_not 'invalid operands' $compile/wrong.c ${bits/$place=w/$place=$wrong} $lists; done
+    must $compile/wrong.c $bits $lists $tunings
+    for place in B{1..26}; do
+        for wrong in x f; do must_not 'invalid operands' $compile/wrong.c ${bits/$place=w/$place=$wrong} $lists $tunings; done
     done
-    must $compile/wrong.c ${bits/B3=w/B3=x} $lists -DALTULISCIA_UNGUARDED -Wno-conversion -Wno-float-conversion
-    for place in L{1..5}; do
+    must $compile/wrong.c ${bits/B3=w/B3=x} $lists $tunings -DALTULISCIA_UNGUARDED -Wno-conversion -Wno-float-conversion
+    for place in L{1..10}; do
         for wrong in m g; do
-            must_not 'incompatible|cannot convert|no matching' $compile/wrong.c $bits ${lists/$place=d/$place=$wrong}
+            must_not 'incompatible|cannot convert|no matching' $compile/wrong.c $bits ${lists/$place=d/$place=$wrong} $tunings
         done
+    done
+    for wrong in T{1..5}=d R{1..4}=s; do
+        must_not 'incompatible|cannot convert|no matching' $compile/wrong.c $bits $lists ${tunings/${wrong%=*}=[tr]/$wrong}
     done
 }
 
 # ran COMPILER STANDARD LANGUAGE
 ran() {
     local name link="$1 -std=$2 -x $3 ${strict/-Wconversion/} host/example"
-    for name in example alike; do
+    for name in example alike tuned; do
         must $link/$name.c -x none "$archive" -o "$made/$name"
     done
     "$made/example" | diff host/example/expected.txt -
-    "$made/alike" > "$made/told" || { cat "$made/told" && exit 1; }
+    for name in alike tuned; do
+        "$made/$name" > "$made/told" || { cat "$made/told" && exit 1; }
+    done
 }
 
 # unmerged COMPILER LANGUAGE: no product of a decision is merged with its sum, though the processor could and the compiler may.

@@ -8,10 +8,18 @@
 #include <stdlib.h>
 #include <string.h>
 
-enum { MOST = 512, ROOM = 1 << 20, PAINT = 0xa5, RUNS = 400, ON_BYTES = 6, FUNCTIONS = 12 };
+enum { MOST = 512, ROOM = 1 << 20, PAINT = 0xa5, RUNS = 400, FORMS = 4, KINDS = 6 };
+
+/* On bytes, without a tuning and with one; with doubles, likewise. */
+static const char *const names[FORMS][KINDS] = {
+    {"general", "c", "nu", "one_class", "retired", "pair"},
+    {"general_tuned", "c_tuned", "nu_tuned", "one_class_tuned", NULL, NULL},
+    {"train_general", "train_c", "train_nu", "train_one_class", "train_retired", "find_pair"},
+    {"train_general_tuned", "train_c_tuned", "train_nu_tuned", "train_one_class_tuned", "train_retired_tuned", NULL}};
 
 static double matrix[MOST * MOST], ceilings[MOST], alphas[MOST], linear[MOST], crate_reading[MOST], home[MOST];
-static uint8_t labels[MOST], retired[MOST], answer[ALTULISCIA_ANSWER_BYTES];
+static uint8_t labels[MOST], retired[MOST], answer[ALTULISCIA_TUNED_ANSWER_BYTES];
+static const altuliscia_tuning tuning = {ALTULISCIA_USUAL_FLOOR};
 static uint64_t state, accepted;
 static uintptr_t call_begins;
 
@@ -45,6 +53,8 @@ static void fill(size_t n) {
             matrix[c * n + r] = points[c][0] * points[r][0] + points[c][1] * points[r][1] + points[c][2] * points[r][2];
 }
 
+#define TUNING (const uint8_t *)&tuning, sizeof tuning
+
 static uint64_t call(int which, size_t n, uint8_t shrinking) {
     const uint8_t *m = (const uint8_t *)matrix;
     uint8_t *c = (uint8_t *)crate_reading, *h = (uint8_t *)home;
@@ -64,12 +74,34 @@ static uint64_t call(int which, size_t n, uint8_t shrinking) {
         return altuliscia_one_class(n, m, square, bits(0.4), eps, shrinking, budget, c, list, h, list, answer, sizeof answer);
     case 4:
         return altuliscia_retired(n, m, square, labels, n, (const uint8_t *)ceilings, list, (const uint8_t *)alphas, list,
-                                  (const uint8_t *)linear, list, retired, n, (uint8_t)below(2), eps, 0, budget, NULL, 0, c, list, h,
+                                  (const uint8_t *)linear, list, retired, n, (uint8_t)below(2), eps, 0, budget, TUNING, c, list, h,
                                   list, answer, sizeof answer);
     default:
         return altuliscia_pair(bits(alphas[0]), bits(ceilings[0]), bits(alphas[1]), bits(ceilings[1]), bits(linear[0]),
                                bits(linear[1]), bits(matrix[0]), bits(matrix[n + 1]), bits(matrix[1]), shrinking, answer,
                                sizeof answer);
+    }
+}
+
+static uint64_t call_tuned(int which, size_t n, uint8_t shrinking) {
+    const uint8_t *m = (const uint8_t *)matrix;
+    uint8_t *c = (uint8_t *)crate_reading, *h = (uint8_t *)home;
+    size_t square = 8 * n * n, list = 8 * n;
+    uint64_t eps = bits(0.001), budget = 1 + below(200);
+    switch (which) {
+    case 0:
+        return altuliscia_general_tuned(n, m, square, labels, n, (const uint8_t *)ceilings, list, (const uint8_t *)alphas, list,
+                                        (const uint8_t *)linear, list, (uint8_t)below(2), eps, shrinking, budget, TUNING, c, list, h,
+                                        list, answer, sizeof answer);
+    case 1:
+        return altuliscia_c_tuned(n, m, square, labels, n, bits(1.0), bits(2.0), eps, shrinking, budget, TUNING, c, list, h, list,
+                                  answer, sizeof answer);
+    case 2:
+        return altuliscia_nu_tuned(n, m, square, labels, n, bits(0.4), eps, shrinking, budget, TUNING, c, list, h, list, answer,
+                                   sizeof answer);
+    default:
+        return altuliscia_one_class_tuned(n, m, square, bits(0.4), eps, shrinking, budget, TUNING, c, list, h, list, answer,
+                                          sizeof answer);
     }
 }
 
@@ -99,8 +131,28 @@ static uint64_t call_train(int which, size_t n, uint8_t shrinking) {
     }
 }
 
-/* Volatile, so that neither is inlined: their frames lie below that of `work`, and are measured too. */
-static uint64_t (*volatile calls[])(int, size_t, uint8_t) = {call, call_train};
+static uint64_t call_train_tuned(int which, size_t n, uint8_t shrinking) {
+    uint64_t budget = 1 + below(200);
+    altuliscia_tuned_result result;
+    int rule = (int)below(2);
+    switch (which) {
+    case 0:
+        return altuliscia_train_general_tuned(n, matrix, labels, ceilings, alphas, linear, rule, 0.001, shrinking, budget, &tuning,
+                                              NULL, home, &result);
+    case 1:
+        return altuliscia_train_c_tuned(n, matrix, labels, 1.0, 2.0, 0.001, shrinking, budget, &tuning, NULL, home, &result);
+    case 2:
+        return altuliscia_train_nu_tuned(n, matrix, labels, 0.4, 0.001, shrinking, budget, &tuning, NULL, home, &result);
+    case 3:
+        return altuliscia_train_one_class_tuned(n, matrix, 0.4, 0.001, shrinking, budget, &tuning, NULL, home, &result);
+    default:
+        return altuliscia_train_retired_tuned(n, matrix, labels, ceilings, alphas, linear, retired, rule, 0.001, budget, &tuning, NULL,
+                                              home, &result.result);
+    }
+}
+
+/* Volatile, so that none is inlined: their frames lie below that of `work`, and are measured too. */
+static uint64_t (*volatile calls[FORMS])(int, size_t, uint8_t) = {call, call_tuned, call_train, call_train_tuned};
 
 static void *work(void *given) {
     char here = 0;
@@ -110,33 +162,42 @@ static void *work(void *given) {
     for (int k = 0; k < RUNS; k++) {
         size_t n = k == 0 ? MOST : 2 + below(30);
         fill(n);
-        accepted += calls[which / ON_BYTES](which % ON_BYTES, n, k % 4 != 1) == ALTULISCIA_ACCEPTED;
+        accepted += calls[which / KINDS](which % KINDS, n, k % 4 != 1) == ALTULISCIA_ACCEPTED;
     }
     return NULL;
 }
 
+/* What the function needs; 0 where it couldn't be run. */
+static size_t measured(int which) {
+    void *stack;
+    pthread_attr_t attributes;
+    pthread_t thread;
+    if (posix_memalign(&stack, 4096, ROOM) != 0)
+        return 0;
+    memset(stack, PAINT, ROOM);
+    if (pthread_attr_init(&attributes) != 0 || pthread_attr_setstack(&attributes, stack, ROOM) != 0)
+        return 0;
+    if (pthread_create(&thread, &attributes, work, &which) != 0 || pthread_join(thread, NULL) != 0)
+        return 0;
+    const uint8_t *lowest = stack;
+    while (*lowest == PAINT)
+        lowest++;
+    size_t used = (size_t)(call_begins - (uintptr_t)lowest);
+    free(stack);
+    return used;
+}
+
 int main(void) {
-    static const char *names[FUNCTIONS] = {"general",       "c",       "nu",       "one_class",       "retired",       "pair",
-                                           "train_general", "train_c", "train_nu", "train_one_class", "train_retired", "find_pair"};
     int over = 0;
-    for (int which = 0; which < FUNCTIONS; which++) {
-        void *stack;
-        pthread_attr_t attributes;
-        pthread_t thread;
-        if (posix_memalign(&stack, 4096, ROOM) != 0)
+    for (int which = 0; which < FORMS * KINDS; which++) {
+        const char *name = names[which / KINDS][which % KINDS];
+        if (name == NULL)
+            continue;
+        size_t used = measured(which);
+        if (used == 0)
             return 2;
-        memset(stack, PAINT, ROOM);
-        if (pthread_attr_init(&attributes) != 0 || pthread_attr_setstack(&attributes, stack, ROOM) != 0)
-            return 2;
-        if (pthread_create(&thread, &attributes, work, &which) != 0 || pthread_join(thread, NULL) != 0)
-            return 2;
-        const uint8_t *lowest = stack;
-        while (*lowest == PAINT)
-            lowest++;
-        size_t used = (size_t)(call_begins - (uintptr_t)lowest);
-        printf("altuliscia_%-15s %6zu bytes of stack\n", names[which], used);
-        over |= used > (which < ON_BYTES ? ALTULISCIA_STACK_BYTES : ALTULISCIA_TRAIN_STACK_BYTES);
-        free(stack);
+        printf("altuliscia_%-21s %6zu bytes of stack\n", name, used);
+        over |= used > (which < 2 * KINDS ? ALTULISCIA_STACK_BYTES : ALTULISCIA_TRAIN_STACK_BYTES);
         if (accepted < RUNS / 2) {
             printf("only %d of %d calls were accepted\n", (int)accepted, RUNS);
             return 1;

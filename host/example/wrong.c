@@ -1,8 +1,10 @@
-/* Places for what can be handed over wrongly. With w, the bits, in B1 to B18 and d, a list of doubles, in L1 to L5 this compiles; with a
- * double or a float in one B, or a list of bytes or floats in one L, it must not. header.sh tries each. */
+/* Places for what can be handed over wrongly. With w, the bits, in B1 to B26, d, a list of doubles, in L1 to L10, t, a tuning, in T1 to T5
+ * and r, the longer answer, in R1 to R4 this compiles; with a double or a float in one B, a list of bytes or floats in one L, a list of
+ * doubles in one T, or the shorter answer, s, in one R it must not. header.sh tries each. */
 #include "altuliscia.h"
 
 uint64_t places(const uint8_t *m, const double *d, const float *g, uint64_t w, double x, float f, uint8_t *a, double *home);
+uint64_t tuned_places(const uint8_t *m, const double *d, const float *g, uint64_t w, double x, float f, uint8_t *a, double *home);
 
 uint64_t places(const uint8_t *m, const double *d, const float *g, uint64_t w, double x, float f, uint8_t *a, double *home) {
     uint64_t sum = g ? altuliscia_bits(x + f) : 0;
@@ -19,4 +21,21 @@ uint64_t places(const uint8_t *m, const double *d, const float *g, uint64_t w, d
     sum += altuliscia_train_nu(2, L4, m, x, x, 0, 10, NULL, home, &result);
     sum += altuliscia_train_one_class(2, L5, x, x, 0, 10, NULL, home, &result);
     return sum + result.refusal + w;
+}
+
+uint64_t tuned_places(const uint8_t *m, const double *d, const float *g, uint64_t w, double x, float f, uint8_t *a, double *home) {
+    uint64_t sum = g ? altuliscia_bits(x + f) : 0;
+    const altuliscia_tuning usual = altuliscia_usual_tuning(), *t = &usual;
+    altuliscia_tuned_result tuned, *r = &tuned;
+    altuliscia_result result, *s = &result;
+    sum += altuliscia_general_tuned(2, m, 32, m, 2, m, 16, m, 16, m, 16, 1, B19, 0, 10, m, 8, a, 16, a, 16, a, 128);
+    sum += altuliscia_c_tuned(2, m, 32, m, 2, B20, B21, B22, 1, 10, m, 8, a, 16, a, 16, a, 128);
+    sum += altuliscia_nu_tuned(2, m, 32, m, 2, B23, B24, 0, 10, m, 8, a, 16, a, 16, a, 128);
+    sum += altuliscia_one_class_tuned(2, m, 32, B25, B26, 0, 10, m, 8, a, 16, a, 16, a, 128);
+    sum += altuliscia_train_general_tuned(2, L6, m, d, d, d, 0, x, 0, 10, T1, NULL, home, R1);
+    sum += altuliscia_train_retired_tuned(2, L7, m, d, d, d, m, 0, x, 10, T2, NULL, home, s);
+    sum += altuliscia_train_c_tuned(2, L8, m, x, f, 1, 0, 10, T3, NULL, home, R2);
+    sum += altuliscia_train_nu_tuned(2, L9, m, x, x, 0, 10, T4, NULL, home, R3);
+    sum += altuliscia_train_one_class_tuned(2, L10, x, x, 0, 10, T5, NULL, home, R4);
+    return sum + r->result.refusal + s->refusal + w + (t->floor > 0);
 }

@@ -35,6 +35,12 @@ double (array.array("d"), bytes, a float64 array of numpy, whose rows are taken 
 1 (positive) and 0 (negative). What is refused is told by a Refusal, which is a ValueError; what is no number at all, by a TypeError.
 Retired numbers that can't be right are told by a TypeError or a plain ValueError, before anything is refused.
 
+Where the curvature of a pair isn't above 0, `floor` stands for it. Two samples with the same kernel values and different labels are
+such a pair, and a smaller floor takes longer steps along it:
+
+    >>> [altuliscia.fit_c([[1, 1], [1, 1]], [1, 0], 1e12, 1e12, floor=floor).n_iter_ for floor in (1e-10, 1e-12)]
+    [[50], [1]]
+
 Where a weight came from: altuliscia_trail has the steps that a sample went through, and find_pair is one step by itself.
 """
 import ctypes
@@ -46,20 +52,23 @@ from array import array
 from collections import namedtuple
 from itertools import compress
 
-__version__ = "1.2.0"
+__version__ = "1.3.0"
 
 MOST_SAMPLES = 512
 MOST_PASSES = 10_000_000
 SUPPORT_LIMIT = 100 * 2.0 ** -52  # a weight counts as support where its magnitude is above this
+USUAL_FLOOR = 1e-10  # stands for a curvature that isn't above 0, as in linfa-svm; LIBSVM has 1e-12
 
+# What is known of an answer, and its room: the tuned functions answer sixteen words.
 _ANSWER = struct.Struct("<QQdQddQQQ")
+_ANSWER_BYTES = 128
 _PAIR = struct.Struct("<dd")
 
 # The words of include/altuliscia.h.
 _SENTENCES = {
     1: "The number of samples is 0 or above 512: lend 1 to 512 samples.",
-    2: "A list has the wrong length: lend a matrix of 8*n*n bytes, n labels, n retired bytes, 8n bytes for each list of doubles, an "
-       "empty tuning, at least 8n bytes for each result list and at least 72 for the answer.",
+    2: "A list has the wrong length: lend a matrix of 8*n*n bytes, n labels, n retired bytes, 8n bytes for each list of doubles, a "
+       "tuning of 0 or 8 bytes, at least 8n bytes for each result list and at least 72 for the answer, under the tuned functions 128.",
     3: "A kernel entry is NaN, infinite or above 2^1000 in magnitude: the index is column*n + row; scale the kernel down or mend "
        "that entry.",
     4: "A label is neither 0 nor 1: the index is its sample; write 1 for positive, 0 for negative.",
@@ -73,6 +82,7 @@ _SENTENCES = {
     11: "Shrinking would have taken more samples out than were active: train with shrinking off, which avoids it.",
     12: "A retired byte is neither 0 nor 1: write 1 for a retired sample, 0 for any other.",
     13: "Shrinking is asked for where samples may be retired: train with shrinking off.",
+    14: "The floor of the curvature is NaN, not above 0 or above 1: give a number above 0 and not above 1; the usual one is 1e-10.",
 }
 
 
@@ -101,7 +111,7 @@ class Fit:
     Under the library's own names:
 
     home            each sample's own weight
-    crate_reading   the list that the Rust crate linfa-svm answers, where weights may stand at other samples
+    crate_reading   the list that the Rust crate linfa-svm answers, or would with this floor; weights may stand at other samples there
     rho, r, obj     offset, scale of the nu rule (None without it), objective
     support_count   how many weights are above 100*2^-52 in magnitude, as the library counts them; a NaN isn't. support_ also has the
                     smaller ones, which a decision needs
@@ -144,7 +154,7 @@ class Fit:
         return decisions
 
 
-def fit_c(matrix, labels, cpos=1.0, cneg=1.0, *, eps=1e-7, shrinking=False, budget=MOST_PASSES, retired=None):
+def fit_c(matrix, labels, cpos=1.0, cneg=1.0, *, eps=1e-7, shrinking=False, budget=MOST_PASSES, retired=None, floor=USUAL_FLOOR):
     """Trains two classes; `cpos` is the ceiling of positive samples and `cneg` that of negative ones.
 
     eps        the run ends where no pair breaks the conditions by this much
@@ -152,48 +162,54 @@ def fit_c(matrix, labels, cpos=1.0, cneg=1.0, *, eps=1e-7, shrinking=False, budg
     budget     the most passes, 1 to 10000000
     retired    the numbers of the samples to train without, counted from 0 as in support_, in any order. What is given for them is
                judged as any other's and has no say in the answer; shrinking must be off (refusal 13)
+    floor      stands for the curvature of a pair where that isn't above 0: above 0 and not above 1 (else refusal 14). A smaller one
+               takes longer steps along flat directions. With another one than the usual there is no trail
     """
     marks = _labels(labels)
     n = len(marks)
     gone = _retired(retired, n)
     given = (_bits(cpos), _bits(cneg))
     lent = (_matrix(matrix, n), marks)
+    late = (_tuning(floor),)
     if not gone:
-        return Fit(*_called("altuliscia_c", n, lent, given, eps, shrinking, budget))
+        return Fit(*_called("altuliscia_c_tuned", n, lent, given, eps, shrinking, budget, late))
     # One pass of the C fit, for its refusals: there a bad cpos or cneg is told as such, not as a sample's ceiling.
-    _called("altuliscia_c", n, lent, given, eps, False, min(operator.index(budget), 1))
+    _called("altuliscia_c_tuned", n, lent, given, eps, False, min(operator.index(budget), 1), late)
     ceilings = [cpos if mark else cneg for mark in marks]
     lent += (_doubles(ceilings), _doubles([0.0] * n), _doubles([-1.0] * n))
-    home, crate_reading, *rest = _without(gone, n, lent, False, eps, shrinking, budget)
+    home, crate_reading, *rest = _without(gone, n, lent, False, eps, shrinking, budget, late)
     return Fit(_signed(home, marks, gone), _signed(crate_reading, marks, gone), *rest)
 
 
-def fit_nu(matrix, labels, nu=0.5, *, eps=1e-7, shrinking=False, budget=MOST_PASSES):
+def fit_nu(matrix, labels, nu=0.5, *, eps=1e-7, shrinking=False, budget=MOST_PASSES, floor=USUAL_FLOOR):
     """Trains two classes with nu, above 0 and not above 1. For the rest see fit_c."""
     marks = _labels(labels)
-    return Fit(*_called("altuliscia_nu", len(marks), (_matrix(matrix, len(marks)), marks), (_bits(nu),), eps, shrinking, budget))
+    n, given = len(marks), (_bits(nu),)
+    return Fit(*_called("altuliscia_nu_tuned", n, (_matrix(matrix, n), marks), given, eps, shrinking, budget, (_tuning(floor),)))
 
 
-def fit_one_class(matrix, nu=0.5, *, n=None, eps=1e-7, shrinking=False, budget=MOST_PASSES):
+def fit_one_class(matrix, nu=0.5, *, n=None, eps=1e-7, shrinking=False, budget=MOST_PASSES, floor=USUAL_FLOOR):
     """Trains one class with nu, above 0 and not above 1. A matrix that isn't in columns (bytes, array.array, a flat list) needs n
     beside it. For the rest see fit_c; `n_iter_` is a list here, too."""
     n = _columns(matrix) if n is None else operator.index(n)
     if not 0 <= n < 1 << 64:
         raise Refusal(1, 0)
-    return Fit(*_called("altuliscia_one_class", n, (_matrix(matrix, n),), (_bits(nu),), eps, shrinking, budget))
+    given = (_bits(nu),)
+    return Fit(*_called("altuliscia_one_class_tuned", n, (_matrix(matrix, n),), given, eps, shrinking, budget, (_tuning(floor),)))
 
 
 def fit_general(matrix, labels, ceilings, alphas, linear, *, nu_rule=False, eps=1e-7, shrinking=False, budget=MOST_PASSES,
-                retired=None):
+                retired=None, floor=USUAL_FLOOR):
     """Trains with each sample's ceiling, start weight and linear term given. The weights are neither signed by label nor divided.
     For the rest see fit_c."""
     marks = _labels(labels)
     n = len(marks)
     gone = _retired(retired, n)
     lent = (_matrix(matrix, n), marks, _doubles(ceilings), _doubles(alphas), _doubles(linear))
+    late = (_tuning(floor),)
     if not gone:
-        return Fit(*_called("altuliscia_general", n, lent, (_flag(nu_rule),), eps, shrinking, budget))
-    return Fit(*_without(gone, n, lent, nu_rule, eps, shrinking, budget))
+        return Fit(*_called("altuliscia_general_tuned", n, lent, (_flag(nu_rule),), eps, shrinking, budget, late))
+    return Fit(*_without(gone, n, lent, nu_rule, eps, shrinking, budget, late))
 
 
 Before = namedtuple("Before", "weight ceiling gradient diagonal")
@@ -208,7 +224,8 @@ def find_pair(i, j, entry, agree):
     entry   the kernel value of column i, row j where the labels agree, its negative where they don't
     agree   whether the labels agree
 
-    Nothing is refused: NaN and infinities go through the same comparisons as any other number.
+    Nothing is refused: NaN and infinities go through the same comparisons as any other number. The floor of the curvature is the
+    usual one.
 
     >>> sample = Before(weight=0.0, ceiling=1.0, gradient=-1.0, diagonal=1.0)
     >>> find_pair(sample, sample._replace(ceiling=0.25), -0.5, False)
@@ -223,10 +240,10 @@ def find_pair(i, j, entry, agree):
     return _PAIR.unpack(pair.raw)
 
 
-def _without(gone, n, lent, nu_rule, eps, shrinking, budget):
-    """As the general fit, without the samples in `gone`. The tuning is empty."""
+def _without(gone, n, lent, nu_rule, eps, shrinking, budget, late):
+    """As the general fit, without the samples in `gone`."""
     marks = bytes(k in gone for k in range(n))
-    return _called("altuliscia_retired", n, (*lent, marks), (_flag(nu_rule),), eps, shrinking, budget, (b"",), gone)
+    return _called("altuliscia_retired", n, (*lent, marks), (_flag(nu_rule),), eps, shrinking, budget, late, gone)
 
 
 def _signed(weights, marks, gone):
@@ -267,8 +284,18 @@ def _flag(on):
 
 def _bits(number):
     """A double as the number with the same eight bytes."""
+    return ctypes.c_uint64(int.from_bytes(_double(number), "little"))
+
+
+def _tuning(floor):
+    """What may be told beside the options, as eight bytes for each."""
+    return _double(floor)
+
+
+def _double(number):
+    """The eight bytes of a double."""
     try:
-        return ctypes.c_uint64(struct.unpack("<Q", struct.pack("<d", number))[0])
+        return struct.pack("<d", number)
     except struct.error:
         raise TypeError(f"a double is needed, not {number!r:.40}") from None
 
@@ -347,15 +374,15 @@ def _called(name, n, lent, given, eps, shrinking, budget, late=(), gone=()):
     budget = budget if 0 <= budget < 1 << 64 else 0
     # More samples than may be are refused without a look at any list.
     room = 8 * min(n, MOST_SAMPLES)
-    written = [ctypes.create_string_buffer(size) for size in (room, room, _ANSWER.size)]
+    written = [ctypes.create_string_buffer(size) for size in (room, room, _ANSWER_BYTES)]
     results = []
-    for buffer, size in zip(written, (room, room, _ANSWER.size)):
+    for buffer, size in zip(written, (room, room, _ANSWER_BYTES)):
         results += [buffer, ctypes.c_size_t(size)]
     options = (_bits(eps), _flag(shrinking), ctypes.c_uint64(budget))
     function = getattr(_library(), name)
     function.restype = ctypes.c_uint64
     refusal = function(ctypes.c_size_t(n), *_slices(lent), *given, *options, *_slices(late), *results)
-    _, index, rho, has_r, r, obj, iterations, reason, support = _ANSWER.unpack(written[2].raw)
+    _, index, rho, has_r, r, obj, iterations, reason, support = _ANSWER.unpack_from(written[2])
     if refusal:
         raise Refusal(refusal, index)
     home, crate_reading = (list(struct.unpack(f"<{n}d", buffer.raw)) for buffer in (written[1], written[0]))

@@ -7,12 +7,12 @@
     >>> [(step.pass_, step.partner, step.left) for step in trail.steps]
     [(1, 0, 1.0)]
 
-The run is replayed here, by the rule (docs/RULE.md), with shrinking off; what a step leaves of its two weights is asked of the
-library's pair finder, altuliscia.find_pair. Then the library is asked for the same: for each step that chose the sample, a call whose
-budget ends just before it and one whose budget ends with it. All n weights must be the replay's, bit for bit, and at the end also the
-iterations and the exit reason; else Differs is raised. So each weight in a trail is one that the library answers. (A call can't have a
-budget of 0, so what the first pass of all found are the start weights by the rule. Under nu the weights are compared as they are
-answered, divided by r; where r is no divisor also with those of fit_general, which aren't.)
+The run is replayed here, by the rule (docs/RULE.md), with shrinking off and the usual floor; what a step leaves of its two weights
+is asked of the library's pair finder, altuliscia.find_pair. Then the library is asked for the same: for each step that chose the
+sample, a call whose budget ends just before it and one whose budget ends with it. All n weights must be the replay's, bit for bit,
+and at the end also the iterations and the exit reason; else Differs is raised. So each weight in a trail is one that the library
+answers. (A call can't have a budget of 0, so what the first pass of all found are the start weights by the rule. Under nu the
+weights are compared as they are answered, divided by r; where r is no divisor also with those of fit_general, which aren't.)
 
 Gradients, `delta` and which of the two is the first are computed here: no call tells them. They are confirmed in so far as the pair
 finder, given them, leaves what the library's run left. A sample that is chosen often costs two trainings for each time.
@@ -24,10 +24,7 @@ from array import array
 from collections import namedtuple
 
 import altuliscia
-from altuliscia import MOST_PASSES, Before, fit_c, fit_general, fit_nu, fit_one_class
-
-# Stands for a curvature that isn't above 0.
-_FLOOR = 1e-10
+from altuliscia import MOST_PASSES, USUAL_FLOOR, Before, fit_c, fit_general, fit_nu, fit_one_class
 
 
 class Trail(namedtuple("Trail", "sample retired ceiling start steps end home fit calls")):
@@ -90,32 +87,33 @@ class Differs(RuntimeError):
                          "is told")
 
 
-def trail_c(matrix, labels, cpos=1.0, cneg=1.0, *, sample, eps=1e-7, shrinking=False, budget=MOST_PASSES, retired=None):
+def trail_c(matrix, labels, cpos=1.0, cneg=1.0, *, sample, eps=1e-7, shrinking=False, budget=MOST_PASSES, retired=None,
+            floor=USUAL_FLOOR):
     """The trail of one sample, by its number from 0 on, in what altuliscia.fit_c trains. What is refused there is refused here.
-    Shrinking must be off: with it on, samples move."""
+    Shrinking must be off: with it on, samples move. The floor must be the usual one: the pair finder has no other."""
     marks = altuliscia._labels(labels)
     n = len(marks)
     gone = altuliscia._retired(retired, n)
     kernel = altuliscia._matrix(matrix, n)
 
     def fit(passes):
-        return fit_c(kernel, marks, cpos, cneg, eps=eps, budget=passes, retired=gone)
+        return fit_c(kernel, marks, cpos, cneg, eps=eps, budget=passes, retired=gone, floor=floor)
 
     def replay():
         ceilings = [float(cpos if mark else cneg) for mark in marks]
         return _Replay(kernel, marks, ceilings, [0.0] * n, [-1.0] * n, eps, retired=gone)
 
-    return _trail(fit, replay, sample, shrinking, budget, lambda weights, r: altuliscia._signed(weights, marks, gone))
+    return _trail(fit, replay, sample, shrinking, floor, budget, lambda weights, r: altuliscia._signed(weights, marks, gone))
 
 
-def trail_nu(matrix, labels, nu=0.5, *, sample, eps=1e-7, shrinking=False, budget=MOST_PASSES):
+def trail_nu(matrix, labels, nu=0.5, *, sample, eps=1e-7, shrinking=False, budget=MOST_PASSES, floor=USUAL_FLOOR):
     """As trail_c, in what altuliscia.fit_nu trains."""
     marks = altuliscia._labels(labels)
     n = len(marks)
     kernel = altuliscia._matrix(matrix, n)
 
     def fit(passes):
-        return fit_nu(kernel, marks, nu, eps=eps, budget=passes)
+        return fit_nu(kernel, marks, nu, eps=eps, budget=passes, floor=floor)
 
     def replay():
         return _Replay(kernel, marks, [1.0] * n, _shared(marks, nu), [0.0] * n, eps, nu_rule=True)
@@ -126,25 +124,25 @@ def trail_nu(matrix, labels, nu=0.5, *, sample, eps=1e-7, shrinking=False, budge
     def plain(passes):
         return fit_general(kernel, marks, [1.0] * n, _shared(marks, nu), [0.0] * n, nu_rule=True, eps=eps, budget=passes)
 
-    return _trail(fit, replay, sample, shrinking, budget, finished, plain)
+    return _trail(fit, replay, sample, shrinking, floor, budget, finished, plain)
 
 
-def trail_one_class(matrix, nu=0.5, *, sample, n=None, eps=1e-7, shrinking=False, budget=MOST_PASSES):
+def trail_one_class(matrix, nu=0.5, *, sample, n=None, eps=1e-7, shrinking=False, budget=MOST_PASSES, floor=USUAL_FLOOR):
     """As trail_c, in what altuliscia.fit_one_class trains."""
     n = altuliscia._columns(matrix) if n is None else operator.index(n)
     kernel = altuliscia._matrix(matrix, n)
 
     def fit(passes):
-        return fit_one_class(kernel, nu, n=n, eps=eps, budget=passes)
+        return fit_one_class(kernel, nu, n=n, eps=eps, budget=passes, floor=floor)
 
     def replay():
         return _Replay(kernel, b"\1" * n, [1.0] * n, _first_ones(n, nu), [0.0] * n, eps)
 
-    return _trail(fit, replay, sample, shrinking, budget, lambda weights, r: weights)
+    return _trail(fit, replay, sample, shrinking, floor, budget, lambda weights, r: weights)
 
 
 def trail_general(matrix, labels, ceilings, alphas, linear, *, sample, nu_rule=False, eps=1e-7, shrinking=False, budget=MOST_PASSES,
-                  retired=None):
+                  retired=None, floor=USUAL_FLOOR):
     """As trail_c, in what altuliscia.fit_general trains."""
     marks = altuliscia._labels(labels)
     gone = altuliscia._retired(retired, len(marks))
@@ -152,20 +150,22 @@ def trail_general(matrix, labels, ceilings, alphas, linear, *, sample, nu_rule=F
     lists = [altuliscia._doubles(given) for given in (ceilings, alphas, linear)]
 
     def fit(passes):
-        return fit_general(kernel, marks, *lists, nu_rule=nu_rule, eps=eps, budget=passes, retired=gone)
+        return fit_general(kernel, marks, *lists, nu_rule=nu_rule, eps=eps, budget=passes, retired=gone, floor=floor)
 
     def replay():
         return _Replay(kernel, marks, *(list(array("d", given)) for given in lists), eps, nu_rule=nu_rule, retired=gone)
 
-    return _trail(fit, replay, sample, shrinking, budget, lambda weights, r: weights)
+    return _trail(fit, replay, sample, shrinking, floor, budget, lambda weights, r: weights)
 
 
-def _trail(fit, replay, sample, shrinking, budget, finished, plain=None):
+def _trail(fit, replay, sample, shrinking, floor, budget, finished, plain=None):
     """fit trains with as many passes at the most; finished gives weights as it answers them, where its r is that; plain, where it is
     there, answers them undivided."""
     if shrinking:
         raise ValueError("a trail is told with shrinking off: with it on, samples move")
     answer = fit(budget)
+    if floor != USUAL_FLOOR:
+        raise ValueError("a trail is told with the usual floor, 1e-10: the pair finder has no other")
     number = _number(sample, len(answer.home))
     return _Follower(fit, replay(), number, finished, plain).follow(answer, operator.index(budget))
 
@@ -326,7 +326,7 @@ class _Replay:
             d = top + fall
             if i is not None and d > 0.0:
                 q = _curvature(self.diagonal[i], self.diagonal[j], self.rows[i][j], self.labels[i] == self.labels[j])
-                yield j, -(d * d) / (q if q > 0.0 else _FLOOR)
+                yield j, -(d * d) / (q if q > 0.0 else USUAL_FLOOR)
 
 
 def _best(values, best, takes):
@@ -348,7 +348,7 @@ def _delta(i, j, entry, agree):
     """The step of a pair before it is clipped."""
     q = _curvature(i.diagonal, j.diagonal, entry, agree)
     rise = i.gradient - j.gradient if agree else -(i.gradient + j.gradient)
-    return rise / (_FLOOR if q <= 0.0 else q)
+    return rise / (USUAL_FLOOR if q <= 0.0 else q)
 
 
 def _shared(labels, nu):

@@ -134,6 +134,7 @@ class Refusals(Refused):
         self.refused(10, 0, fit_c, IDENTITY, [1, 0], budget=-1)
         self.refused(10, 0, fit_c, IDENTITY, [1, 0], budget=1 << 70)
         self.refused(8, 0, fit_c, IDENTITY, [1, 0], eps=-1.0, budget=-1)
+        self.refused(14, 0, fit_c, IDENTITY, [1, 0], floor=0)
 
     def test_columns_of_another_length(self):
         # As many numbers as there should be, but not in n columns of n.
@@ -162,6 +163,7 @@ class Refusals(Refused):
         for given, options, told in (
             ((IDENTITY, [1, 0], "x"), {}, "a double is needed, not 'x'"),
             ((IDENTITY, [1, 0]), {"eps": None}, "a double is needed, not None"),
+            ((IDENTITY, [1, 0]), {"floor": "1e-10"}, "a double is needed, not '1e-10'"),
             ((IDENTITY, [1, 0]), {"budget": 1.5}, "'float' object cannot be interpreted as an integer"),
             ((IDENTITY, [1, 0]), {"budget": "9"}, "'str' object cannot be interpreted as an integer"),
             (([["1", "0"], ["0", "1"]], [1, 0]), {}, "must be real number, not str"),
@@ -313,7 +315,7 @@ class Retired(Refused):
         with mock.patch("altuliscia._called", wraps=altuliscia._called) as called:
             problem.fits(retired=[])
         names = [call[0][0] for call in called.call_args_list]
-        self.assertEqual(names, ["altuliscia_c", "altuliscia_general", "altuliscia_general"])
+        self.assertEqual(names, ["altuliscia_c_tuned", "altuliscia_general_tuned", "altuliscia_general_tuned"])
         for fit in (*problem.fits(), fit_nu(IDENTITY, [1, 0]), fit_one_class(IDENTITY)):
             self.assertEqual(fit.retired_, [])
 
@@ -323,7 +325,7 @@ class Retired(Refused):
             n = len(problem.labels)
             lent = (bits(sum(problem.matrix, [])), bytes(problem.labels), *map(bits, problem.lists()[1:]))
             for nu in (False, True):
-                answer = altuliscia._without(set(), n, lent, nu, 1e-7, False, 50)
+                answer = altuliscia._without(set(), n, lent, nu, 1e-7, False, 50, (b"",))
                 plain = fit_general(problem.matrix, *problem.lists(), nu_rule=nu, budget=50)
                 self.assertEqual(told(Fit(*answer)), told(plain))
 
@@ -436,11 +438,15 @@ class RetiredRefused(Refused):
             return altuliscia._called("altuliscia_retired", 2, lists, given, 1e-7, shrinking, 9, late)
 
         self.assertEqual(call(b"\0\0", (b"",))[0], [1.0, 1.0])
-        for marks, late in ((b"\0", b""), (b"\0" * 3, b""), (b"\0\0", b"\0"), (b"\0\0", bytes(8)), (b"", b"")):
+        for marks, late in ((b"\0", b""), (b"\0" * 3, b""), (b"", b""), *((b"\0\0", bytes(length)) for length in (1, 7, 9, 16))):
             self.refused(2, 0, call, marks, (late,))
-        for marks in (b"\2\0", b"\1\2", b"\xff\1"):
-            self.refused(12, 0, call, marks, (b"",), True)
-        self.refused(13, 0, call, b"\0\0", (b"",), True)
+        for late in (b"", bits([1e-10])):
+            for marks in (b"\2\0", b"\1\2", b"\xff\1"):
+                self.refused(12, 0, call, marks, (late,), True)
+            self.refused(13, 0, call, b"\0\0", (late,), True)
+        for marks in (b"\0\0", b"\2\0"):
+            for shrinking in (False, True):
+                self.refused(14, 0, call, marks, (bytes(8),), shrinking)
 
     def bad(self, kind, text, retired, labels=(1, 0)):
         for fit, lists in ((fit_c, ()), (fit_general, ([1, 1], [0, 0], [-1, -1]))):
@@ -482,6 +488,77 @@ class RetiredRefused(Refused):
         for fit, given in ((fit_nu, (IDENTITY, [1, 0])), (fit_one_class, (IDENTITY,))):
             with self.assertRaises(TypeError):
                 fit(*given, retired=[1])
+
+
+class Floor(Refused):
+    # Two samples whose curvature is 1 + 0.5 - 2*0.75 = 0, and, for nu, which pairs samples of one label, two such pairs; then the same
+    # two behind one that is retired.
+    FLAT = [[1, 0.75], [0.75, 0.5]]
+    TWO = [[1, 0.75, 0, 0], [0.75, 0.5, 0, 0], [0, 0, 1, 0.75], [0, 0, 0.75, 0.5]]
+    BEHIND = [[9, 9, 9], [9, 1, 0.75], [9, 0.75, 0.5]]
+    KINDS = (
+        (fit_c, (FLAT, [1, 0], 8, 8), {}),
+        (fit_nu, (TWO, [1, 1, 0, 0], 0.25), {}),
+        (fit_one_class, (FLAT, 0.25), {}),
+        (fit_general, (FLAT, [1, 0], [8] * 2, [0] * 2, [-1] * 2), {}),
+        (fit_c, (BEHIND, [1, 1, 0], 8, 8), {"retired": [0]}),
+        (fit_general, (BEHIND, [1, 1, 0], [8] * 3, [0] * 3, [-1] * 3), {"retired": [0]}),
+    )
+    # Of two passes by a floor of 1. Those of nu are divided by r.
+    WEIGHTS = ([4, -4], None, [0.25, 0.25], [4, 4], [0, 4, -4], [0, 4, 4])
+
+    def test_steps(self):
+        for (fit, given, options), weights in zip(self.KINDS, self.WEIGHTS):
+            usual, other, least = (fit(*given, budget=2, floor=floor, **options) for floor in (1e-10, 1, 5e-324))
+            self.assertEqual((other.n_iter_, other.fit_status_), ([2], 1))
+            self.assertEqual(told(usual), told(fit(*given, budget=2, **options)))
+            self.assertEqual(told(least), told(usual))
+            if weights is None:
+                weights = [weight / other.r for weight in (0.5, 0, -0.25, -0.25)]
+            self.assertEqual(other.home, weights)
+            self.assertNotEqual(usual.home, weights)
+
+    def test_bad(self):
+        for fit, given, options in self.KINDS:
+            for floor in (0, -0.0, -1, 1.0000000000000002, math.inf, -math.inf, math.nan):
+                self.refused(14, 0, fit, *given, floor=floor, **options)
+                self.refused(14, 0, fit, *given, floor=floor, shrinking=True, **options)
+                self.refused(10, 0, fit, *given, floor=floor, budget=0, **options)
+                self.refused(8, 0, fit, *given, floor=floor, eps=-1.0, budget=0, **options)
+            for floor in (None, "x", [1e-10]):
+                with self.assertRaises(TypeError):
+                    fit(*given, floor=floor, **options)
+        self.refused(9, 0, fit_one_class, self.FLAT, 0.0, floor=0.0)
+
+    def kinds(self, problem):
+        """Each function without a tuning, with the lists of a drawn problem and what it takes beside them."""
+        kernel, labels, nu = bits(sum(problem.matrix, [])), bytes(problem.labels), altuliscia._bits(0.3)
+        yield "altuliscia_c", (kernel, labels), (altuliscia._bits(2.0), altuliscia._bits(0.75))
+        yield "altuliscia_nu", (kernel, labels), (nu,)
+        yield "altuliscia_one_class", (kernel,), (nu,)
+        for rule in (False, True):
+            yield "altuliscia_general", (kernel, labels, *map(bits, problem.lists()[1:])), (altuliscia._flag(rule),)
+
+    def answered(self, name, problem, lent, given, shrinking, *late):
+        """What it answers, or the number and index of its refusal."""
+        try:
+            return told(Fit(*altuliscia._called(name, len(problem.labels), lent, given, 1e-3, shrinking, 50, late)))
+        except Refusal as refusal:
+            return refusal.number, refusal.index
+
+    def test_without_a_tuning(self):
+        draw, answers = random.Random(3), set()
+        for _ in range(100):
+            problem = Problem(draw, draw.randint(1, 8))
+            for name, *rest in self.kinds(problem):
+                rest = (problem, *rest, draw.randint(0, 1))
+                plain = self.answered(name, *rest)
+                answers.add(str(plain))
+                for tuning, expected in (
+                    (b"", plain), (bits([1e-10]), plain), (bytes(8), (14, 0)), *((bytes(length), (2, 0)) for length in (1, 7, 9, 16)),
+                ):
+                    self.assertEqual(self.answered(name + "_tuned", *rest, tuning), expected)
+        self.assertGreater(len(answers), 200)
 
 
 class Pairs(unittest.TestCase):

@@ -245,6 +245,17 @@ class Refused(unittest.TestCase):
             with self.assertRaises(ValueError) as caught:
                 trail(*given, sample=0, shrinking=True)
             self.assertEqual(str(caught.exception), "a trail is told with shrinking off: with it on, samples move")
+            for floor in (1e-12, 1.0000000000000002e-10, 1.0):
+                with self.assertRaises(ValueError) as caught:
+                    trail(*given, sample=0, floor=floor)
+                self.assertEqual(str(caught.exception), "a trail is told with the usual floor, 1e-10: the pair finder has no other")
+            for floor in (0.0, 1.0000000000000002, math.nan):
+                with self.assertRaises(Refusal) as caught:
+                    trail(*given, sample=0, floor=floor)
+                self.assertEqual(caught.exception.number, 14)
+            with self.assertRaises(TypeError):
+                trail(*given, sample=0, floor="low")
+            self.assertEqual(trail(*given, sample=0, floor=1e-10)[:-2], trail(*given, sample=0)[:-2])
         for n in (-1, 0, 513):
             with self.assertRaises(Refusal) as caught:
                 trail_one_class(IDENTITY, sample=0, n=n)

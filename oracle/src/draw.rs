@@ -8,17 +8,22 @@
 //! the ends of the float range. Then one problem in five is spoiled so that it
 //! must be refused.
 
-use crate::problem::{Entry, Problem, LIMIT, LIMIT_BITS, MOST_PASSES, MOST_SAMPLES, SUPPORT_LIMIT};
+use crate::problem::{
+    Entry, Problem, BAD_FLOOR, LIMIT, LIMIT_BITS, MOST_PASSES, MOST_SAMPLES, SUPPORT_LIMIT,
+    USUAL_FLOOR,
+};
 use crate::random::Random;
 use crate::run::solve;
 
 mod faint;
 mod retired;
 mod step;
+mod tuned;
 
 pub use faint::{draw_big_faint, draw_faint};
 pub use retired::{draw_retired, redraw_retired};
 pub use step::draw_step;
+pub use tuned::{draw_big_tuned, draw_tuned, FLOORS};
 
 /// The least f64 above 0.
 pub const TINY: f64 = 5e-324;
@@ -119,8 +124,12 @@ fn plain(g: &mut Random) -> Problem {
     let n = size(g);
     let kind = Kind::any(g);
     let matrix = matrix(g, n, kind);
+    plain_over(g, n, &matrix)
+}
+
+fn plain_over(g: &mut Random, n: usize, matrix: &[f64]) -> Problem {
     let entry = g.pick(&Entry::DRAWN);
-    let mut p = Problem::over(entry, n, &matrix);
+    let mut p = Problem::over(entry, n, matrix);
     p.shrinking = !g.one_in(4);
     p.eps = eps(g);
     fill(g, &mut p, n, false);
@@ -149,7 +158,11 @@ fn restless(g: &mut Random) -> Problem {
         Entry::Nu,
         Entry::OneClass,
     ]);
-    let mut p = Problem::over(entry, n, &matrix);
+    restless_over(g, entry, n, &matrix)
+}
+
+fn restless_over(g: &mut Random, entry: Entry, n: usize, matrix: &[f64]) -> Problem {
+    let mut p = Problem::over(entry, n, matrix);
     p.shrinking = true;
     p.eps = g.pick(&[0.0, 1e-12, 1e-9, 1e-6, 1e-4, 1e-2]);
     fill(g, &mut p, n, true);
@@ -276,6 +289,14 @@ fn nudged(g: &mut Random, x: f64) -> f64 {
     } else {
         f64::from_bits(x.to_bits() - 2 + g.below(5))
     }
+}
+
+/// The float, or the next one above or below. A zero stays.
+fn next_door(g: &mut Random, x: f64) -> f64 {
+    if x == 0.0 {
+        return x;
+    }
+    f64::from_bits(x.to_bits() - 1 + g.below(3))
 }
 
 /// Two samples whose first step ends just at, before or past the place where
@@ -550,6 +571,22 @@ fn lively_matrix(g: &mut Random, n: usize, kind: Kind) -> Vec<f64> {
     m
 }
 
+/// Nearly the same run over a kernel of so many times the size.
+fn scale_kernel(p: &mut Problem, scale: f64) {
+    for (k, x) in p.entries().into_iter().enumerate() {
+        p.set_pattern(k, within_limit(x * scale).to_bits());
+    }
+    if p.entry == Entry::C {
+        for ceiling in [&mut p.cpos, &mut p.cneg] {
+            *ceiling = within_limit(*ceiling / scale);
+        }
+        return;
+    }
+    for x in p.linear.iter_mut().chain([&mut p.eps]) {
+        *x *= scale;
+    }
+}
+
 fn diagonal(g: &mut Random, n: usize, kind: Kind) -> Vec<f64> {
     let mut m = vec![0.0; n * n];
     let same = kind.number(g);
@@ -775,9 +812,11 @@ fn spare_room(g: &mut Random, p: &mut Problem) {
 
 // ---- what must be refused
 
-/// Spoils a sound problem in one to three ways.
+/// Spoils a sound problem in one to three ways. A floor is left as it is: other
+/// draws than `draw_tuned` have the usual one.
 fn spoil(g: &mut Random, p: &mut Problem) {
-    let numbers: Vec<u64> = p.entry.judged().collect();
+    let numbers = p.entry.judged().filter(|k| *k != BAD_FLOOR);
+    let numbers: Vec<u64> = numbers.collect();
     let ways = match g.below(8) {
         0..=4 => 1,
         5..=6 => 2,
@@ -839,6 +878,18 @@ const BAD_CEILINGS: [f64; 8] = [
     f64::INFINITY,
     f64::NEG_INFINITY,
     f64::MAX,
+];
+
+const BAD_FLOORS: [f64; 9] = [
+    0.0,
+    -0.0,
+    PAST_ONE,
+    2.0,
+    -TINY,
+    -USUAL_FLOOR,
+    -1.0,
+    f64::INFINITY,
+    f64::NEG_INFINITY,
 ];
 
 fn spoil_by(g: &mut Random, p: &mut Problem, number: u64) {
@@ -917,7 +968,8 @@ fn spoil_by(g: &mut Random, p: &mut Problem, number: u64) {
         }
         10 => p.budget = g.pick(&[0, 0, MOST_PASSES + 1, 1 << 32, 1 << 63, u64::MAX]),
         12 => bad_places(g, &mut p.retired, |g, _| bad_byte(g)),
-        _ => p.shrinking = true,
+        13 => p.shrinking = true,
+        _ => p.floor = bad(g, &BAD_FLOORS),
     }
 }
 

@@ -1,6 +1,6 @@
 //! The refusals that are given before anything runs.
 
-use crate::problem::{Entry, Problem, LIMIT, LIMIT_BITS, MOST_PASSES, MOST_SAMPLES};
+use crate::problem::{Entry, Problem, BAD_FLOOR, LIMIT, LIMIT_BITS, MOST_PASSES, MOST_SAMPLES};
 
 /// A refusal: its number, and the first offending index for 3 to 7, else 0.
 #[derive(Clone, Copy, Debug, PartialEq, Eq)]
@@ -9,12 +9,12 @@ pub struct Refusal {
     pub index: u64,
 }
 
-/// The refusal of the lowest number that applies, if one but 11 does.
+/// The first refusal that applies, in the order 1 to 10, 14, 12, 13.
 pub fn judge(p: &Problem) -> Option<Refusal> {
     p.entry.judged().find_map(|number| refused(p, number))
 }
 
-/// Every number but 11 that applies by itself, lowest first.
+/// Every number but 11 that applies by itself, in that order.
 pub fn faults(p: &Problem) -> Vec<u64> {
     p.entry
         .judged()
@@ -41,10 +41,11 @@ fn refused(p: &Problem, number: u64) -> Option<Refusal> {
         }),
         7 => first(p.linear.iter(), |x| !x.is_finite()),
         8 => whole(!p.eps.is_finite() || p.eps.is_sign_negative()),
-        9 => whole(p.nu.is_nan() || p.nu <= 0.0 || p.nu > 1.0),
+        9 => whole(bad_share(p.nu)),
         10 => whole(p.budget == 0 || p.budget > MOST_PASSES),
         12 => whole(p.retired.iter().any(|b| bad_byte(*b))),
         13 => whole(p.shrinking),
+        BAD_FLOOR => whole(bad_share(p.floor)),
         _ => None,
     };
     index.map(|index| Refusal { number, index })
@@ -72,6 +73,11 @@ fn bad_byte(b: u8) -> bool {
 
 fn bad_ceiling(c: f64) -> bool {
     c.is_nan() || c <= 0.0 || c > LIMIT
+}
+
+/// Of what must be above 0 and at most 1.
+fn bad_share(x: f64) -> bool {
+    x.is_nan() || x <= 0.0 || x > 1.0
 }
 
 /// Whether every list that the entry takes is as long as n asks. In 128 bits,

@@ -22,7 +22,7 @@ pub mod run;
 pub mod show;
 pub mod worked;
 
-pub use draw::{draw, draw_faint, draw_retired, draw_step};
+pub use draw::{draw, draw_faint, draw_retired, draw_step, draw_tuned};
 pub use judge::{judge, Refusal};
 pub use problem::{Entry, Problem};
 pub use run::{solve, step, Accepted, Answer, Given, Outcome, Reason};

@@ -1,7 +1,9 @@
 //! The oracle's command line.
 
 use oracle::marks::{Owed, Tally};
-use oracle::{draw, draw_faint, draw_retired, record, show, solve, worked, Outcome, Problem};
+use oracle::{
+    draw, draw_faint, draw_retired, draw_tuned, record, show, solve, worked, Outcome, Problem,
+};
 use std::process::ExitCode;
 use std::time::Instant;
 
@@ -17,6 +19,8 @@ const HELP: &str = "oracle COMMAND
                     the same of problems with retired samples
   draw faint SEED COUNT, show faint SEED
                     the same of problems with weights near the support limit
+  draw tuned SEED COUNT, show tuned SEED
+                    the same of problems with floors of their own
 ";
 
 fn main() -> ExitCode {
@@ -29,9 +33,11 @@ fn main() -> ExitCode {
         ["draw", seed, count] => run_draw(draw, Owed::Some, seed, count),
         ["draw", "retired", seed, count] => run_draw(draw_retired, Owed::Retired, seed, count),
         ["draw", "faint", seed, count] => run_draw(draw_faint, Owed::Faint, seed, count),
+        ["draw", "tuned", seed, count] => run_draw(draw_tuned, Owed::Tuned, seed, count),
         ["show", seed] => run_show(draw, seed),
         ["show", "retired", seed] => run_show(draw_retired, seed),
         ["show", "faint", seed] => run_show(draw_faint, seed),
+        ["show", "tuned", seed] => run_show(draw_tuned, seed),
         _ => Err(HELP.to_string()),
     };
     match result {

@@ -2,13 +2,15 @@
 //! counts them.
 
 use crate::judge::faults;
-use crate::problem::{Entry, Problem, LAST_REFUSAL, LIMIT, MOST_PASSES};
-use crate::run::{canonical, Accepted, Answer, Outcome, Reason};
+use crate::problem::{Entry, Problem, BAD_FLOOR, LAST_REFUSAL, LIMIT, MOST_PASSES};
+use crate::run::{canonical, Accepted, Answer, Outcome, Place, Reason};
 use faint::{FAINT, WRONG};
+use tuned::{Tuned, TUNED};
 
 mod faint;
 mod retired;
 mod step;
+mod tuned;
 
 pub use retired::RETIRED;
 pub use step::STEP;
@@ -22,6 +24,8 @@ pub enum Owed {
     Retired,
     /// The same, of what `draw_faint` draws.
     Faint,
+    /// The same, of what `draw_tuned` draws.
+    Tuned,
     /// It has never been seen, or must never be.
     None,
 }
@@ -38,7 +42,8 @@ pub fn names() -> Vec<(String, Owed)> {
     }
     for (number, entry) in refusals() {
         let name = format!("refusal {number}, {}", entry.name());
-        all.push((name, owed_by(entry)));
+        let tuned = number == BAD_FLOOR;
+        all.push((name, if tuned { Owed::Tuned } else { owed_by(entry) }));
     }
     let several = "refused for several reasons at once";
     let index = "a refusal at an index that isn't 0";
@@ -56,6 +61,7 @@ pub fn names() -> Vec<(String, Owed)> {
         let name = format!("another support count if {rule}, {}", entry.name());
         all.push((name, Owed::Faint));
     }
+    all.extend(tuned_names().map(|name| (name, Owed::Tuned)));
     let part = "the readings have different support counts";
     all.push((part.into(), Owed::None));
     all.push(("accepted: weight NaN or infinite".into(), Owed::None));
@@ -79,6 +85,29 @@ fn wrong_rules() -> impl Iterator<Item = (&'static str, Entry, fn(f64) -> bool)>
         entries.iter().map(move |entry| (*rule, *entry, *test))
     };
     WRONG.iter().flat_map(each)
+}
+
+/// The marks of a floor, in the order of [`tuned_marks`].
+fn tuned_names() -> impl Iterator<Item = String> {
+    let floors = tuned::edges().map(|floor| format!("floor {floor:?}"));
+    let kinds = TUNED.iter().map(|(name, _)| format!("floor: {name}"));
+    let entries = Entry::ALL.into_iter();
+    let places = Place::ALL.into_iter().map(Place::name);
+    floors
+        .chain(kinds)
+        .chain(entries.map(|e| format!("another answer than at 1e-10, {}", e.name())))
+        .chain(places.clone().map(|p| format!("floor asked for: {p}")))
+        .chain(places.map(|p| format!("another answer if 1e-10 stayed: {p}")))
+}
+
+fn tuned_marks(p: &Problem, answer: &Answer) -> Vec<bool> {
+    let t = Tuned::of(p, answer);
+    let mut all: Vec<bool> = tuned::edges().map(|floor| t.has(floor)).collect();
+    all.extend(TUNED.iter().map(|(_, test)| test(&t)));
+    all.extend(Entry::ALL.map(|entry| t.another_of(entry)));
+    all.extend(Place::ALL.map(|place| t.asked(place)));
+    all.extend(Place::ALL.map(|place| t.tells_at(place)));
+    all
 }
 
 /// The marks of one answer, in the order of [`names`].
@@ -108,6 +137,7 @@ pub fn marks(p: &Problem, answer: &Answer) -> Vec<bool> {
         let tells = accepted.map_or(false, |a| faint::differs(a, &a.home, rule));
         all.push(p.entry == entry && tells);
     }
+    all.extend(tuned_marks(p, answer));
     all.push(accepted.map_or(false, faint::readings_part));
     all.push(accepted.map_or(false, |a| a.weights.iter().any(|w| !w.is_finite())));
     all.push(answer.events.second_not_optimal > 0);
@@ -269,6 +299,20 @@ pub fn readings_differ(a: &Accepted) -> bool {
         .iter()
         .zip(&a.home)
         .any(|(x, y)| canonical(*x) != canonical(*y))
+}
+
+/// What a caller is told, as words.
+fn told(answer: &Answer) -> Vec<u64> {
+    let a = match &answer.outcome {
+        Outcome::Accepted(a) => a,
+        Outcome::Refused(r) => return vec![r.number, r.index],
+        Outcome::Fault(_) => return Vec::new(),
+    };
+    let numbers = [a.rho, a.r.unwrap_or(0.0), a.obj].into_iter();
+    let lists = a.crate_reading.iter().chain(&a.home);
+    let mut all: Vec<u64> = numbers.chain(lists.copied()).map(canonical).collect();
+    all.extend([a.iterations, a.reason as u64, a.support]);
+    all
 }
 
 fn is_negative_zero(x: f64) -> bool {

@@ -1,5 +1,8 @@
 //! What a caller lends and asks.
 
+/// What stands in for a curvature that isn't above 0, in the published text.
+pub use linfa_svm::floor::USUAL as USUAL_FLOOR;
+
 /// The largest magnitude of a kernel entry or a ceiling, 2^1000.
 pub const LIMIT: f64 = 1.0715086071862673e301;
 pub const LIMIT_BITS: u64 = 0x7e70_0000_0000_0000;
@@ -15,7 +18,13 @@ pub const MOST_SAMPLES: u64 = 512;
 pub const MOST_PASSES: u64 = 10_000_000;
 
 /// The largest number of a refusal.
-pub const LAST_REFUSAL: u64 = 13;
+pub const LAST_REFUSAL: u64 = 14;
+
+/// The refusal of a floor, which came last. It is judged ahead of 12 and 13.
+pub const BAD_FLOOR: u64 = 14;
+
+/// Every refusal but 11, in the order in which they are judged.
+const JUDGED: [u64; 13] = [1, 2, 3, 4, 5, 6, 7, 8, 9, 10, BAD_FLOOR, 12, 13];
 
 /// Which of the five calls is made.
 #[derive(Clone, Copy, Debug, PartialEq, Eq)]
@@ -71,7 +80,7 @@ impl Entry {
     /// Whether this entry can answer with the refusal of that number.
     pub fn can_refuse(self, number: u64) -> bool {
         match number {
-            1..=3 | 8 | 10 => true,
+            1..=3 | 8 | 10 | BAD_FLOOR => true,
             4 => self.has_labels(),
             5 => self.has_lists() || self == Entry::C,
             6 | 7 => self.has_lists(),
@@ -82,9 +91,9 @@ impl Entry {
         }
     }
 
-    /// The refusals that it can give before anything runs, lowest first.
+    /// The refusals that it can give before anything runs, in their order.
     pub fn judged(self) -> impl Iterator<Item = u64> {
-        (1..=LAST_REFUSAL).filter(move |k| *k != 11 && self.can_refuse(*k))
+        JUDGED.into_iter().filter(move |k| self.can_refuse(*k))
     }
 }
 
@@ -118,6 +127,8 @@ pub struct Problem {
     pub eps: f64,
     pub shrinking: bool,
     pub budget: u64,
+    /// What stands in for a curvature that isn't above 0.
+    pub floor: f64,
     pub crate_len: u64,
     pub home_len: u64,
     pub scratch_floats: u64,
@@ -127,8 +138,8 @@ pub struct Problem {
 
 impl Problem {
     /// A problem over the matrix of n columns, with every result list and
-    /// scratch list exactly as long as it must be and no label, ceiling or
-    /// parameter yet.
+    /// scratch list exactly as long as it must be, the usual floor and no label,
+    /// ceiling or parameter yet.
     pub fn over(entry: Entry, n: usize, entries: &[f64]) -> Problem {
         let mut p = Problem {
             entry,
@@ -146,6 +157,7 @@ impl Problem {
             eps: 0.0,
             shrinking: false,
             budget: 1,
+            floor: USUAL_FLOOR,
             crate_len: 0,
             home_len: 0,
             scratch_floats: 0,

@@ -114,7 +114,8 @@ fn compact(p: &Problem) -> Option<Vec<u8>> {
         .collect()
 }
 
-/// One record: problem and answer.
+/// One record: problem and answer. It has no place for a floor: it is read back
+/// with the usual one.
 pub fn record(p: &Problem, told: &Told) -> Vec<u8> {
     let mut out = Vec::new();
     let compact = compact(p);

@@ -38,6 +38,7 @@ pub fn without(p: &Problem, kept: &[usize]) -> Problem {
     rest.nu_rule = p.nu_rule;
     rest.eps = p.eps;
     rest.budget = p.budget;
+    rest.floor = p.floor;
     rest
 }
 

@@ -5,6 +5,7 @@ use crate::problem::{Entry, Problem};
 use crate::retired;
 use linfa_kernel::Kernel;
 use linfa_svm::classification::{fit_c, fit_nu, fit_one_class};
+use linfa_svm::floor::usual_at;
 use linfa_svm::permutable_kernel::PermutableKernel;
 use linfa_svm::solver_smo::{SolverParams, SolverState};
 use linfa_svm::watch::{self, Seen};
@@ -16,6 +17,7 @@ use std::panic::{self, AssertUnwindSafe};
 use std::sync::Once;
 
 pub use linfa::Kept;
+pub use linfa_svm::floor::Place;
 pub use linfa_svm::solver_smo::chosen::update as step;
 pub use linfa_svm::watch::{Events, Given, Step};
 
@@ -104,6 +106,11 @@ pub fn solve_keeping(kept: Kept, p: &Problem, trace: bool) -> Answer {
     linfa::keeping(kept, || solve(p, trace))
 }
 
+/// As [`solve`], with the published 1e-10 at that place instead of the floor.
+pub fn solve_usual_at(place: Place, p: &Problem, trace: bool) -> Answer {
+    usual_at(place, || solve(p, trace))
+}
+
 /// The problem's answer: refused, or what the published solver answers. Of
 /// zeros of different sign `max` and `min` keep the first.
 pub fn solve(p: &Problem, trace: bool) -> Answer {
@@ -152,6 +159,7 @@ fn run(p: &Problem) -> Svm<f64, f64> {
         eps: p.eps,
         shrinking: p.shrinking,
         budget: p.budget as usize,
+        floor: p.floor,
     };
     // the solver asks for the samples only to pick the support vectors; here
     // sample k is a row of one place that holds k

@@ -57,6 +57,7 @@ pub fn problem(p: &Problem) -> String {
     line("eps", float(p.eps));
     line("shrinking", p.shrinking.to_string());
     line("budget", p.budget.to_string());
+    line("floor", float(p.floor));
     line(
         "result lists",
         format!("crate {}, home {}", p.crate_len, p.home_len),

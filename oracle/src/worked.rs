@@ -2,7 +2,7 @@
 
 use crate::draw::{PAST_LIMIT, PAST_ONE};
 use crate::judge::Refusal;
-use crate::problem::{Entry, Problem, LIMIT};
+use crate::problem::{Entry, Problem, LIMIT, USUAL_FLOOR};
 use crate::run::{caught, solve, Outcome, Reason};
 use linfa_kernel::Kernel;
 use linfa_svm::permutable_kernel::PermutableKernel;
@@ -106,6 +106,7 @@ fn state(pattern: &str) -> State {
             eps: 0.0,
             shrinking: true,
             budget: 1,
+            floor: USUAL_FLOOR,
         },
         false,
     )

@@ -7,10 +7,12 @@ use oracle::marks::{is_own_inverse, Owed, Tally};
 use oracle::problem::MOST_PASSES;
 use oracle::record::{record, Told};
 use oracle::run::canonical;
-use oracle::{draw, draw_faint, draw_retired, judge, solve, Accepted, Entry, Outcome, Problem};
+use oracle::{
+    draw, draw_faint, draw_retired, draw_tuned, judge, solve, Accepted, Entry, Outcome, Problem,
+};
 
 type Draw = fn(u64) -> Problem;
-const ALL: [Draw; 3] = [draw, draw_retired, draw_faint];
+const ALL: [Draw; 4] = [draw, draw_retired, draw_faint, draw_tuned];
 
 const DRAWS: u64 = 100_000;
 
@@ -20,7 +22,8 @@ fn a_seed_draws_the_same_problem_and_answer() {
         for draw in ALL {
             let twice = [0, 1].map(|_| {
                 let p = draw(seed);
-                record(&p, &Told::of(&solve(&p, true)))
+                let told = Told::of(&solve(&p, true));
+                (p.floor.to_bits(), record(&p, &told))
             });
             assert_eq!(twice[0], twice[1], "seed {seed}");
         }
@@ -63,6 +66,29 @@ fn faint_draws_reach_every_kind() {
     }
     let wrong = tally.wrong();
     assert!(wrong.is_empty(), "{wrong:?}\n{}", tally.lines().join("\n"));
+}
+
+/// Every floor, every refusal of one and every place that asks for it.
+#[test]
+fn tuned_draws_reach_every_kind() {
+    let mut tally = Tally::owing(&[Owed::Tuned]);
+    for seed in 0..20_000 {
+        let p = draw_tuned(seed);
+        tally.add(&p, &solve(&p, false));
+    }
+    let wrong = tally.wrong();
+    assert!(wrong.is_empty(), "{wrong:?}\n{}", tally.lines().join("\n"));
+    // the floor is what makes the answer
+    let told = tally.count("floor: another answer than at 1e-10");
+    assert!(told > 3000, "{told}");
+}
+
+/// The other draws have the usual floor.
+#[test]
+fn a_floor_is_drawn_for_nothing_else() {
+    for p in (0..5000).flat_map(|seed| [draw, draw_retired, draw_faint].map(|draw| draw(seed))) {
+        assert_eq!(p.floor, 1e-10);
+    }
 }
 
 fn same(a: f64, b: f64) -> bool {

@@ -22,7 +22,7 @@ fn without_added(text: &str) -> (String, usize) {
 
 #[test]
 fn two_files_are_the_published_ones_but_for_added_lines() {
-    for (name, most_added) in [("solver_smo", 15), ("permutable_kernel", 0)] {
+    for (name, most_added) in [("solver_smo", 22), ("permutable_kernel", 0)] {
         let published = text(&format!("published/{name}.rs.txt"));
         assert!(
             !published.contains(ADDED),
@@ -35,24 +35,71 @@ fn two_files_are_the_published_ones_but_for_added_lines() {
     }
 }
 
-/// Apart from the budget and a file beside it, an added line only writes
-/// something down.
+/// Apart from the budget, the floor and a file beside it, an added line only
+/// writes something down.
 #[test]
-fn added_lines_write_down_or_set_the_budget() {
+fn added_lines_write_down_or_set_budget_and_floor() {
     for line in text("linfa-svm/src/solver_smo.rs").lines() {
         let line = line.trim();
         if line.ends_with(ADDED) {
             let others = [
                 "pub mod chosen; // oracle",
                 "pub budget: usize, // oracle",
+                "pub floor: F, // oracle",
                 "let max_iter = self.params.budget; // oracle",
             ];
+            let floor = PLACES.iter().any(|place| line == takes_over(place));
             assert!(
-                line.starts_with("crate::watch::") || others.contains(&line),
+                line.starts_with("crate::watch::") || others.contains(&line) || floor,
                 "{line}"
             );
         }
     }
+}
+
+/// Where the published text has 1e-10, from its top down.
+const PLACES: [&str; 6] = [
+    "Differ",
+    "Agree",
+    "CPositive",
+    "CNegative",
+    "NuPositive",
+    "NuNegative",
+];
+
+/// The added line by which the floor takes over at that place.
+fn takes_over(place: &str) -> String {
+    let floor = format!("crate::floor::at(crate::floor::Place::{place}, self.params.floor)");
+    match place {
+        "Differ" | "Agree" => format!("quad_coef = {floor}; // oracle"),
+        _ => format!("let obj_diff = if quad_coef > F::zero() {{ obj_diff }} else {{ -(grad_diff * grad_diff) / {floor} }}; // oracle"),
+    }
+}
+
+/// Behind each published 1e-10, and nowhere else, the floor takes over before
+/// anything looks at it.
+#[test]
+fn each_published_floor_gives_way() {
+    let text = text("linfa-svm/src/solver_smo.rs");
+    let lines: Vec<&str> = text.lines().map(str::trim).collect();
+    let mut places = PLACES.iter();
+    for (k, line) in lines.iter().enumerate() {
+        let behind = match *line {
+            "quad_coef = F::cast(1e-10);" => k + 1,
+            "-(grad_diff * grad_diff) / F::cast(1e-10)" => {
+                assert_eq!(lines[k + 1], "};");
+                k + 2
+            }
+            _ => {
+                assert!(!line.contains("1e-10"), "{line}");
+                continue;
+            }
+        };
+        let place = places.next().expect("there are six");
+        assert_eq!(lines[behind], takes_over(place));
+    }
+    assert_eq!(places.next(), None);
+    assert_eq!(text.matches("self.params.floor").count(), PLACES.len());
 }
 
 /// The parts between `// published: NAME` and `// end`.

@@ -2,7 +2,7 @@
 //! written, and worth its room.
 
 use oracle::marks::Owed;
-use oracle::problem::{Entry, Problem, MOST_SAMPLES};
+use oracle::problem::{Entry, Problem, BAD_FLOOR, MOST_SAMPLES};
 use oracle::record::{check, chosen, file, read, record, Record, Told, MOST_RECORDED_PASSES};
 use oracle::solve;
 use std::fs;
@@ -91,7 +91,8 @@ fn retired_records_stand_behind_the_others() {
     assert!(retired.iter().all(|r| r.problem.entry == Entry::Retired));
     assert_eq!(room(others) + 16, 3_496_312);
     assert_eq!(room(retired), 354_464);
-    for number in Entry::Retired.judged() {
+    // a record has no place for a floor
+    for number in Entry::Retired.judged().filter(|k| *k != BAD_FLOOR) {
         let of = retired.iter().filter(|r| r.told.refusal == number);
         assert!(of.count() >= 8, "refusal {number}");
     }

@@ -349,17 +349,33 @@ fn thirteen_shrinking() {
     }
 }
 
+#[test]
+fn fourteen_floor() {
+    let mut bad = nans();
+    bad.extend([0.0, -0.0, -TINY, -1e-10, -1.0, PAST_ONE, 2.0, f64::MAX]);
+    bad.extend([f64::INFINITY, f64::NEG_INFINITY]);
+    let below_one = f64::from_bits(1.0f64.to_bits() - 1);
+    for entry in Entry::ALL {
+        for x in &bad {
+            assert_eq!(change(entry, |p| p.floor = *x), Some((14, 0)));
+        }
+        for x in [TINY, 1e-300, 1e-12, 1e-10, below_one, 1.0] {
+            assert_eq!(change(entry, |p| p.floor = x), None);
+        }
+    }
+}
+
 /// Each entry has its numbers before a run, and 11 isn't among them.
 #[test]
 fn the_numbers_of_each_entry() {
     let numbers = |entry: Entry| entry.judged().collect::<Vec<u64>>();
-    assert_eq!(numbers(Entry::General), [1, 2, 3, 4, 5, 6, 7, 8, 10]);
-    assert_eq!(numbers(Entry::C), [1, 2, 3, 4, 5, 8, 10]);
-    assert_eq!(numbers(Entry::Nu), [1, 2, 3, 4, 8, 9, 10]);
-    assert_eq!(numbers(Entry::OneClass), [1, 2, 3, 8, 9, 10]);
+    assert_eq!(numbers(Entry::General), [1, 2, 3, 4, 5, 6, 7, 8, 10, 14]);
+    assert_eq!(numbers(Entry::C), [1, 2, 3, 4, 5, 8, 10, 14]);
+    assert_eq!(numbers(Entry::Nu), [1, 2, 3, 4, 8, 9, 10, 14]);
+    assert_eq!(numbers(Entry::OneClass), [1, 2, 3, 8, 9, 10, 14]);
     assert_eq!(
         numbers(Entry::Retired),
-        [1, 2, 3, 4, 5, 6, 7, 8, 10, 12, 13]
+        [1, 2, 3, 4, 5, 6, 7, 8, 10, 14, 12, 13]
     );
     for entry in Entry::ALL {
         assert_eq!(entry.can_refuse(11), entry != Entry::Retired);
@@ -369,17 +385,22 @@ fn the_numbers_of_each_entry() {
     assert_eq!(Entry::from_number(5), None);
 }
 
-/// All faults at once, taken away one after another: each time the lowest of
-/// those left is told.
+/// All faults at once, taken away one after another: each time the first of
+/// those left is told, in the order 1 to 10, 14, 12, 13.
 #[test]
-fn the_lowest_number_is_given() {
+fn the_first_is_given() {
     for entry in WITH_LISTS {
         all_at_once(entry);
     }
     let mut p = sound(Entry::Nu);
     p.budget = 0;
     p.nu = 0.0;
+    p.floor = 0.0;
     assert_eq!(told(&p), Some((9, 0)));
+    p.nu = 1.0;
+    assert_eq!(told(&p), Some((10, 0)));
+    p.budget = 1;
+    assert_eq!(told(&p), Some((14, 0)));
 }
 
 /// The faulty values stand at sample 1, which is retired where that can be.
@@ -387,6 +408,7 @@ fn all_at_once(entry: Entry) {
     let mut p = sound(entry);
     p.shrinking = entry == Entry::Retired;
     p.retired.iter_mut().skip(2).for_each(|b| *b = 2);
+    p.floor = f64::NAN;
     p.budget = 0;
     p.eps = -0.0;
     p.linear[1] = f64::NAN;
@@ -414,6 +436,8 @@ fn all_at_once(entry: Entry) {
     p.eps = 0.0;
     assert_eq!(told(&p), Some((10, 0)));
     p.budget = 1;
+    assert_eq!(told(&p), Some((14, 0)));
+    p.floor = 1.0;
     if entry == Entry::Retired {
         assert_eq!(told(&p), Some((12, 0)));
         p.retired[2] = 1;

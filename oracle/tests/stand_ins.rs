@@ -3,6 +3,7 @@
 use linfa::{forget_zero_pair, keeping, met_zero_pair, Float, Kept};
 use linfa_kernel::Kernel;
 use linfa_svm::classification::fit_c;
+use linfa_svm::floor::USUAL;
 use linfa_svm::regression;
 use linfa_svm::{SeparatingHyperplane, SolverParams};
 use ndarray::ArrayView2;
@@ -69,6 +70,7 @@ fn params() -> SolverParams<f64> {
         eps: 1e-3,
         shrinking: false,
         budget: 100,
+        floor: USUAL,
     }
 }
 

@@ -11,18 +11,30 @@ use Rattle.hosted.specs.Hosted.{Handed, handed}
 use Rattle.altuliscia.proofs.altuliscia_general.{signature as general-signature}
 use Rattle.altuliscia.proofs.altuliscia_general.Kinds as general-kinds
 use Rattle.altuliscia.proofs.altuliscia_general.Reads as general-reads
+use Rattle.altuliscia.proofs.altuliscia_general_tuned.{signature as general-tuned-signature}
+use Rattle.altuliscia.proofs.altuliscia_general_tuned.Kinds as general-tuned-kinds
+use Rattle.altuliscia.proofs.altuliscia_general_tuned.Reads as general-tuned-reads
 use Rattle.altuliscia.proofs.altuliscia_retired.{signature as retired-signature}
 use Rattle.altuliscia.proofs.altuliscia_retired.Kinds as retired-kinds
 use Rattle.altuliscia.proofs.altuliscia_retired.Reads as retired-reads
 use Rattle.altuliscia.proofs.altuliscia_c.{signature as c-signature}
 use Rattle.altuliscia.proofs.altuliscia_c.Kinds as c-kinds
 use Rattle.altuliscia.proofs.altuliscia_c.Reads as c-reads
+use Rattle.altuliscia.proofs.altuliscia_c_tuned.{signature as c-tuned-signature}
+use Rattle.altuliscia.proofs.altuliscia_c_tuned.Kinds as c-tuned-kinds
+use Rattle.altuliscia.proofs.altuliscia_c_tuned.Reads as c-tuned-reads
 use Rattle.altuliscia.proofs.altuliscia_nu.{signature as nu-signature}
 use Rattle.altuliscia.proofs.altuliscia_nu.Kinds as nu-kinds
 use Rattle.altuliscia.proofs.altuliscia_nu.Reads as nu-reads
+use Rattle.altuliscia.proofs.altuliscia_nu_tuned.{signature as nu-tuned-signature}
+use Rattle.altuliscia.proofs.altuliscia_nu_tuned.Kinds as nu-tuned-kinds
+use Rattle.altuliscia.proofs.altuliscia_nu_tuned.Reads as nu-tuned-reads
 use Rattle.altuliscia.proofs.altuliscia_one_class.{signature as one-class-signature}
 use Rattle.altuliscia.proofs.altuliscia_one_class.Kinds as one-class-kinds
 use Rattle.altuliscia.proofs.altuliscia_one_class.Reads as one-class-reads
+use Rattle.altuliscia.proofs.altuliscia_one_class_tuned.{signature as one-class-tuned-signature}
+use Rattle.altuliscia.proofs.altuliscia_one_class_tuned.Kinds as one-class-tuned-kinds
+use Rattle.altuliscia.proofs.altuliscia_one_class_tuned.Reads as one-class-tuned-reads
 use Rattle.altuliscia.specs.Functions.{PairHanded, pairHanded}
 use Rattle.altuliscia.proofs.altuliscia_pair.{signature as pair-signature}
 use Rattle.altuliscia.proofs.altuliscia_pair.Kinds as pair-kinds
@@ -39,6 +51,13 @@ pub general-once : (κs : Lfts 8) (a : ArgsD general-signature κs) (r r' : ResD
     → general-reads.Post κs a r s → general-reads.Post κs a r' s' → _≡_ {A = Handed} (general-left κs r s) (general-left κs r' s')
 general-once κs a r r' s s' p q = p ∙ sym q
 
+abbrev general-tuned-left : (κs : Lfts 9) → ResD general-tuned-signature κs → AtExit (endedOf 9 general-tuned-kinds.ps general-tuned-kinds.r) κs → Handed
+general-tuned-left κs r s = handed r (now (s .1 .1 .1 .1 .1 .1 .1 .1 .1 .1 .1 .0)) (now (s .1 .1 .1 .1 .1 .1 .1 .1 .1 .1 .1 .1 .0)) (now (s .1 .1 .1 .1 .1 .1 .1 .1 .1 .1 .1 .1 .1 .0))
+
+pub general-tuned-once : (κs : Lfts 9) (a : ArgsD general-tuned-signature κs) (r r' : ResD general-tuned-signature κs) (s s' : AtExit (endedOf 9 general-tuned-kinds.ps general-tuned-kinds.r) κs)
+    → general-tuned-reads.Post κs a r s → general-tuned-reads.Post κs a r' s' → _≡_ {A = Handed} (general-tuned-left κs r s) (general-tuned-left κs r' s')
+general-tuned-once κs a r r' s s' p q = p ∙ sym q
+
 abbrev retired-left : (κs : Lfts 10) → ResD retired-signature κs → AtExit (endedOf 10 retired-kinds.ps retired-kinds.r) κs → Handed
 retired-left κs r s = handed r (now (s .1 .1 .1 .1 .1 .1 .1 .1 .1 .1 .1 .1 .0)) (now (s .1 .1 .1 .1 .1 .1 .1 .1 .1 .1 .1 .1 .1 .0)) (now (s .1 .1 .1 .1 .1 .1 .1 .1 .1 .1 .1 .1 .1 .1 .0))
 
@@ -53,6 +72,13 @@ pub c-once : (κs : Lfts 5) (a : ArgsD c-signature κs) (r r' : ResD c-signature
     → c-reads.Post κs a r s → c-reads.Post κs a r' s' → _≡_ {A = Handed} (c-left κs r s) (c-left κs r' s')
 c-once κs a r r' s s' p q = p ∙ sym q
 
+abbrev c-tuned-left : (κs : Lfts 6) → ResD c-tuned-signature κs → AtExit (endedOf 6 c-tuned-kinds.ps c-tuned-kinds.r) κs → Handed
+c-tuned-left κs r s = handed r (now (s .1 .1 .1 .1 .1 .1 .1 .1 .1 .0)) (now (s .1 .1 .1 .1 .1 .1 .1 .1 .1 .1 .0)) (now (s .1 .1 .1 .1 .1 .1 .1 .1 .1 .1 .1 .0))
+
+pub c-tuned-once : (κs : Lfts 6) (a : ArgsD c-tuned-signature κs) (r r' : ResD c-tuned-signature κs) (s s' : AtExit (endedOf 6 c-tuned-kinds.ps c-tuned-kinds.r) κs)
+    → c-tuned-reads.Post κs a r s → c-tuned-reads.Post κs a r' s' → _≡_ {A = Handed} (c-tuned-left κs r s) (c-tuned-left κs r' s')
+c-tuned-once κs a r r' s s' p q = p ∙ sym q
+
 abbrev nu-left : (κs : Lfts 5) → ResD nu-signature κs → AtExit (endedOf 5 nu-kinds.ps nu-kinds.r) κs → Handed
 nu-left κs r s = handed r (now (s .1 .1 .1 .1 .1 .1 .1 .0)) (now (s .1 .1 .1 .1 .1 .1 .1 .1 .0)) (now (s .1 .1 .1 .1 .1 .1 .1 .1 .1 .0))
 
@@ -60,12 +86,26 @@ pub nu-once : (κs : Lfts 5) (a : ArgsD nu-signature κs) (r r' : ResD nu-signat
     → nu-reads.Post κs a r s → nu-reads.Post κs a r' s' → _≡_ {A = Handed} (nu-left κs r s) (nu-left κs r' s')
 nu-once κs a r r' s s' p q = p ∙ sym q
 
+abbrev nu-tuned-left : (κs : Lfts 6) → ResD nu-tuned-signature κs → AtExit (endedOf 6 nu-tuned-kinds.ps nu-tuned-kinds.r) κs → Handed
+nu-tuned-left κs r s = handed r (now (s .1 .1 .1 .1 .1 .1 .1 .1 .0)) (now (s .1 .1 .1 .1 .1 .1 .1 .1 .1 .0)) (now (s .1 .1 .1 .1 .1 .1 .1 .1 .1 .1 .0))
+
+pub nu-tuned-once : (κs : Lfts 6) (a : ArgsD nu-tuned-signature κs) (r r' : ResD nu-tuned-signature κs) (s s' : AtExit (endedOf 6 nu-tuned-kinds.ps nu-tuned-kinds.r) κs)
+    → nu-tuned-reads.Post κs a r s → nu-tuned-reads.Post κs a r' s' → _≡_ {A = Handed} (nu-tuned-left κs r s) (nu-tuned-left κs r' s')
+nu-tuned-once κs a r r' s s' p q = p ∙ sym q
+
 abbrev one-class-left : (κs : Lfts 4) → ResD one-class-signature κs → AtExit (endedOf 4 one-class-kinds.ps one-class-kinds.r) κs → Handed
 one-class-left κs r s = handed r (now (s .1 .1 .1 .1 .1 .1 .0)) (now (s .1 .1 .1 .1 .1 .1 .1 .0)) (now (s .1 .1 .1 .1 .1 .1 .1 .1 .0))
 
 pub one-class-once : (κs : Lfts 4) (a : ArgsD one-class-signature κs) (r r' : ResD one-class-signature κs) (s s' : AtExit (endedOf 4 one-class-kinds.ps one-class-kinds.r) κs)
     → one-class-reads.Post κs a r s → one-class-reads.Post κs a r' s' → _≡_ {A = Handed} (one-class-left κs r s) (one-class-left κs r' s')
 one-class-once κs a r r' s s' p q = p ∙ sym q
+
+abbrev one-class-tuned-left : (κs : Lfts 5) → ResD one-class-tuned-signature κs → AtExit (endedOf 5 one-class-tuned-kinds.ps one-class-tuned-kinds.r) κs → Handed
+one-class-tuned-left κs r s = handed r (now (s .1 .1 .1 .1 .1 .1 .1 .0)) (now (s .1 .1 .1 .1 .1 .1 .1 .1 .0)) (now (s .1 .1 .1 .1 .1 .1 .1 .1 .1 .0))
+
+pub one-class-tuned-once : (κs : Lfts 5) (a : ArgsD one-class-tuned-signature κs) (r r' : ResD one-class-tuned-signature κs) (s s' : AtExit (endedOf 5 one-class-tuned-kinds.ps one-class-tuned-kinds.r) κs)
+    → one-class-tuned-reads.Post κs a r s → one-class-tuned-reads.Post κs a r' s' → _≡_ {A = Handed} (one-class-tuned-left κs r s) (one-class-tuned-left κs r' s')
+one-class-tuned-once κs a r r' s s' p q = p ∙ sym q
 
 abbrev pair-left : (κs : Lfts 1) → ResD pair-signature κs → AtExit (endedOf 1 pair-kinds.ps pair-kinds.r) κs → PairHanded
 pair-left κs r s = pairHanded r (now (s .1 .1 .1 .1 .1 .1 .1 .1 .1 .1 .0))

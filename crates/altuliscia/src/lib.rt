@@ -2,6 +2,7 @@
 ghost use mathlib.Core.Path.{_≡_};
 ghost use Prim.Native.Nat.{ℕ};
 ghost use Rattle.hosted.specs.Hosted.{Handed, handed};
+ghost use Rattle.wide.specs.Wide.{generalTunedHost, cTunedHost, nuTunedHost, oneClassTunedHost};
 ghost use Rattle.altuliscia.specs.Functions.{generalHost, retiredHost, cHost, nuHost, oneClassHost, PairHanded, pairHanded, pairHost, version};
 
 // Labels l, ceilings c, start alphas a and linear term p.
@@ -30,6 +31,7 @@ pub extern "C" fn altuliscia_general(
         & hosted::are_floats(n, p.len());
     let s = hosted::sized(n, floats, m.len(), cr.len(), h.len(), answer.len());
     if s == 0 {
+        let t = tuning::plain();
         let eps64 = wire::float_of(eps);
         return served::general(
             n,
@@ -42,6 +44,7 @@ pub extern "C" fn altuliscia_general(
             eps64,
             shrinking != 0,
             budget,
+            t,
             cr,
             h,
             answer,
@@ -51,7 +54,7 @@ pub extern "C" fn altuliscia_general(
     s
 }
 
-// The general one, over the samples that aren't retired: a byte of r for each sample, and a tuning t of which no word is known yet.
+// The general one, over the samples that aren't retired: a byte of r for each sample, and a tuning t of eight-byte words.
 #[no_mangle]
 pub extern "C" fn altuliscia_retired(
     n: usize,
@@ -78,9 +81,10 @@ pub extern "C" fn altuliscia_retired(
         & hosted::are_floats(n, a.len())
         & hosted::are_floats(n, p.len())
         & (r.len() == n)
-        & (t.len() == 0);
+        & hosted::is_tuning(t);
     let s = hosted::sized(n, lists, m.len(), cr.len(), h.len(), answer.len());
     if s == 0 {
+        let tune = hosted::tuning_of(t);
         let nu = nurule != 0;
         let shrunk = shrinking != 0;
         let eps64 = wire::float_of(eps);
@@ -96,6 +100,7 @@ pub extern "C" fn altuliscia_retired(
             eps64,
             shrunk,
             budget,
+            tune,
             cr,
             h,
             answer,
@@ -125,6 +130,7 @@ pub extern "C" fn altuliscia_c(
 {
     let s = hosted::sized(n, l.len() == n, m.len(), cr.len(), h.len(), answer.len());
     if s == 0 {
+        let t = tuning::plain();
         let cpos64 = wire::float_of(cpos);
         let cneg64 = wire::float_of(cneg);
         let eps64 = wire::float_of(eps);
@@ -137,6 +143,7 @@ pub extern "C" fn altuliscia_c(
             eps64,
             shrinking != 0,
             budget,
+            t,
             cr,
             h,
             answer,
@@ -165,9 +172,22 @@ pub extern "C" fn altuliscia_nu(
 {
     let s = hosted::sized(n, l.len() == n, m.len(), cr.len(), h.len(), answer.len());
     if s == 0 {
+        let t = tuning::plain();
         let nu64 = wire::float_of(nu);
         let eps64 = wire::float_of(eps);
-        return served::nu(n, m, l, nu64, eps64, shrinking != 0, budget, cr, h, answer);
+        return served::nu(
+            n,
+            m,
+            l,
+            nu64,
+            eps64,
+            shrinking != 0,
+            budget,
+            t,
+            cr,
+            h,
+            answer,
+        );
     }
     hosted::turn_away(answer, s);
     s
@@ -191,12 +211,125 @@ pub extern "C" fn altuliscia_one_class(
 {
     let s = hosted::sized(n, true, m.len(), cr.len(), h.len(), answer.len());
     if s == 0 {
+        let t = tuning::plain();
         let nu64 = wire::float_of(nu);
         let eps64 = wire::float_of(eps);
-        return served::one_class(n, m, nu64, eps64, shrinking != 0, budget, cr, h, answer);
+        return served::one_class(n, m, nu64, eps64, shrinking != 0, budget, t, cr, h, answer);
     }
     hosted::turn_away(answer, s);
     s
+}
+
+// The same four under a tuning t of eight-byte words, with an answer of 128 bytes.
+#[no_mangle]
+pub extern "C" fn altuliscia_general_tuned(
+    n: usize,
+    m: &[u8],
+    l: &[u8],
+    c: &[u8],
+    a: &[u8],
+    p: &[u8],
+    nurule: u8,
+    eps: u64,
+    shrinking: u8,
+    budget: u64,
+    t: &[u8],
+    cr: &mut [u8],
+    h: &mut [u8],
+    answer: &mut [u8],
+) -> u64
+    ensures { λ k. ⌜ _≡_ {A = Handed} (handed k (now (cr .exit)) (now (h .exit)) (now (answer .exit)))
+        (generalTunedHost n (now (m .entry)) (now (l .entry)) (now (c .entry)) (now (a .entry)) (now (p .entry)) nurule eps shrinking budget (now (t .entry)) (now (cr .entry)) (now (h .entry)) (now (answer .entry))) ⌝ }
+{
+    wide::general(
+        n,
+        m,
+        l,
+        c,
+        a,
+        p,
+        nurule,
+        eps,
+        shrinking,
+        budget,
+        t,
+        cr,
+        h,
+        answer,
+    )
+}
+
+#[no_mangle]
+pub extern "C" fn altuliscia_c_tuned(
+    n: usize,
+    m: &[u8],
+    l: &[u8],
+    cpos: u64,
+    cneg: u64,
+    eps: u64,
+    shrinking: u8,
+    budget: u64,
+    t: &[u8],
+    cr: &mut [u8],
+    h: &mut [u8],
+    answer: &mut [u8],
+) -> u64
+    ensures { λ k. ⌜ _≡_ {A = Handed} (handed k (now (cr .exit)) (now (h .exit)) (now (answer .exit)))
+        (cTunedHost n (now (m .entry)) (now (l .entry)) cpos cneg eps shrinking budget (now (t .entry)) (now (cr .entry)) (now (h .entry)) (now (answer .entry))) ⌝ }
+{
+    wide::c(
+        n,
+        m,
+        l,
+        cpos,
+        cneg,
+        eps,
+        shrinking,
+        budget,
+        t,
+        cr,
+        h,
+        answer,
+    )
+}
+
+#[no_mangle]
+pub extern "C" fn altuliscia_nu_tuned(
+    n: usize,
+    m: &[u8],
+    l: &[u8],
+    nu: u64,
+    eps: u64,
+    shrinking: u8,
+    budget: u64,
+    t: &[u8],
+    cr: &mut [u8],
+    h: &mut [u8],
+    answer: &mut [u8],
+) -> u64
+    ensures { λ k. ⌜ _≡_ {A = Handed} (handed k (now (cr .exit)) (now (h .exit)) (now (answer .exit)))
+        (nuTunedHost n (now (m .entry)) (now (l .entry)) nu eps shrinking budget (now (t .entry)) (now (cr .entry)) (now (h .entry)) (now (answer .entry))) ⌝ }
+{
+    wide::nu(n, m, l, nu, eps, shrinking, budget, t, cr, h, answer)
+}
+
+#[no_mangle]
+pub extern "C" fn altuliscia_one_class_tuned(
+    n: usize,
+    m: &[u8],
+    nu: u64,
+    eps: u64,
+    shrinking: u8,
+    budget: u64,
+    t: &[u8],
+    cr: &mut [u8],
+    h: &mut [u8],
+    answer: &mut [u8],
+) -> u64
+    ensures { λ k. ⌜ _≡_ {A = Handed} (handed k (now (cr .exit)) (now (h .exit)) (now (answer .exit)))
+        (oneClassTunedHost n (now (m .entry)) nu eps shrinking budget (now (t .entry)) (now (cr .entry)) (now (h .entry)) (now (answer .entry))) ⌝ }
+{
+    wide::one_class(n, m, nu, eps, shrinking, budget, t, cr, h, answer)
 }
 
 // One step's pair: weight and ceiling of i and of j, gradients, diagonals, the entry of row i at j.
@@ -238,5 +371,5 @@ pub extern "C" fn altuliscia_pair(
 pub extern "C" fn altuliscia_version() -> u64
     ensures { λ k. ⌜ _≡_ {A = ℕ} k version ⌝ }
 {
-    10200
+    10300
 }

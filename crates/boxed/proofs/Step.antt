@@ -6,12 +6,11 @@ use lib.Ieee.{Float, binary64, neg, add, sub, mul, lt, le}
 use lib.Ieee.Fits.{add-fits}
 use lib.Ieee.Scale.{finite}
 use Rattle.alpha.specs.Weight.{zero, two, limit}
-use Rattle.alpha.specs.Weight as Weight
 use Rattle.rounding.specs.Units.{NotNan, Within}
 use Rattle.rounding.proofs.Order.{neg-neg, le-real, lt-real, not-le}
 use Rattle.rounding.proofs.Units.{neg-parts, zero-parts}
 use Rattle.rounding.proofs.NoNan.{within-of, within-add, within-sub, within-twice, within-finite, div-real, sub-real}
-use Rattle.rounding.proofs.Binary64.{limit-parts, floor-above, zero-is, two-is}
+use Rattle.rounding.proofs.Binary64.{limit-parts, zero-is, two-is}
 use Rattle.kernel.specs.Curvature.{curved}
 use Rattle.update.specs.Pair.{floored, stepOf}
 use Rattle.boxed.specs.Range.{Entry, Divides, Chosen}
@@ -49,10 +48,6 @@ floored-divides floor q d w = go (le q zero) (λ n. not-le q zero (w .number .re
 -- entries of magnitude 2^1000 at the most have a curvature that is finite and, floored, above 0
 pub curvature-divides : (agree : Bool) (di dj r floor : Float) → Entry di → Entry dj → Entry r → Divides floor → Divides (floored floor (curved agree di dj r))
 curvature-divides agree di dj r floor ei ej e d = floored-divides floor (curved agree di dj r) d (curvature-within agree di dj r ei ej e)
-
--- the rule's own floor
-pub floor-divides : Divides Weight.floor
-floor-divides = record { finite = floor-above .1; above = rw zero-is (floor-above .2) }
 
 -- ---- the step
 

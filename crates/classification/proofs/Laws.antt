@@ -1,8 +1,8 @@
 -- What the sizes and the verdict give to the run. Assumes nothing.
 use Prim.Native.Nat.{ℕ, _*_, _≤_}
-use mathlib.Core.Bool.{Bool, true, _&&_}
+use mathlib.Core.Bool.{true, _&&_}
 use mathlib.Core.List.{List}
-use mathlib.Core.Path.{_≡_, refl, sym}
+use mathlib.Core.Path.{_≡_, sym}
 use native.Mathlib.Nat.{le-of-eq}
 use borrow.Author.Tests.{leb-true}
 use lib.Dec.{eqb, ltb, leb}
@@ -18,13 +18,12 @@ use Rattle.judge.specs.declared.Judged.the-variants.{Fine}
 use Rattle.judge.proofs.Accepted.{matrix-fine, general-fine, c-fine, nu-fine, one-class-fine}
 use Rattle.judge.proofs.Lengths.{long-enough}
 use Rattle.kernel.specs.Matrix.{Matrix}
-use Rattle.kernel.specs.declared.Kind.{Kind}
 use Rattle.rounding.proofs.Order.{both}
 use Rattle.solver.specs.Run.{problemOf}
 use Rattle.solver.specs.declared.Given.{Given}
 use Rattle.state.specs.Lists.{State, Ready}
 use Rattle.travel.specs.Travel.{Paired}
-use Rattle.classification.specs.Entries.{givenOf, scratchOf, fitted}
+use Rattle.classification.specs.Entries.{scratchOf, fitted}
 
 budget-small : (budget : ℕ) → budgetGood budget ≡ true → budget ≤ 10000000
 unfolding budgetGood
@@ -65,12 +64,11 @@ four-long n l c a p h =
 -- ---- the run
 
 -- loaded lists are ready
-pub loaded-ready : (n : ℕ) (kind : Kind) (eps : Float) (shrinking nu : Bool) (m l : List ℕ) (c a p : List Float) (s t : State) (g : Given) → g ≡ givenOf n kind eps shrinking nu
-    → t ≡ loaded n l c a p s → Matrix n m → 7 * n ≤ length (s .floats) → 2 * n ≤ length (s .numbers) → n ≤ length (s .labels)
-    → (Ready (problemOf g m) t) × (Paired (g .n) (t .numbers)) × (g .side ≡ g .n) × (g .n ≡ n)
-loaded-ready n kind eps shrinking nu m l c a p s t g e q x f u y = rw (e, q) (ready-loaded n kind m l c a p s x f u y, paired-loaded n (s .numbers) u, refl, refl)
+pub loaded-ready : (g : Given) (m l : List ℕ) (c a p : List Float) (s t : State) → g .side ≡ g .n → t ≡ loaded (g .n) l c a p s → Matrix (g .n) m
+    → 7 * g .n ≤ length (s .floats) → 2 * g .n ≤ length (s .numbers) → g .n ≤ length (s .labels) → (Ready (problemOf g m) t) × (Paired (g .n) (t .numbers))
+loaded-ready g m l c a p s t e q x f u y = rw (q, e) (ready-loaded (g .n) (g .kind) m l c a p s x f u y, paired-loaded (g .n) (s .numbers) u)
 
-pub fitted-by : (g : Given) (how : Finish) (m l : List ℕ) (c a p : List Float) (budget : ℕ) (d : Lent) (h : Given) (t : State) (w : Whole) → h ≡ g
-    → t ≡ loaded (g .n) l c a p (scratchOf d) → w ≡ solved h how m l c budget (lent (d .crate) (d .home) (t .floats) (t .numbers) (t .labels)) → w ≡ fitted g how m l c a p budget d
+pub fitted-by : (g : Given) (how : Finish) (m l : List ℕ) (c a p : List Float) (budget : ℕ) (d : Lent) (t : State) (w : Whole)
+    → t ≡ loaded (g .n) l c a p (scratchOf d) → w ≡ solved g how m l c budget (lent (d .crate) (d .home) (t .floats) (t .numbers) (t .labels)) → w ≡ fitted g how m l c a p budget d
 unfolding fitted
-fitted-by g how m l c a p budget d h t w e q x = rw (x, q, e)
+fitted-by g how m l c a p budget d t w q x = rw (x, q)

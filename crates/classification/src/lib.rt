@@ -9,21 +9,21 @@ ghost use Rattle.kernel.specs.Matrix.{Matrix};
 ghost use Rattle.solver.specs.Run.{problemOf};
 ghost use Rattle.state.specs.Lists.{state, Ready};
 ghost use Rattle.travel.specs.Travel.{Paired};
-ghost use Rattle.classification.specs.Entries.{givenOf, fitted};
-use alpha::Alpha;
+ghost use Rattle.classification.specs.Entries.{givenBy, fitted};
 use answer::Finish;
 use answer::Outcome;
 use kernel::Kind;
 use solver::Given;
+use tuning::Tuning;
 
-pub fn given(n: usize, kind: Kind, eps: f64, shrinking: bool, nu: bool) -> Given
-    ensures { λ g. ⌜ g ≡ givenOf n kind eps shrinking nu ⌝ }
+pub fn given(t: Tuning, n: usize, kind: Kind, eps: f64, shrinking: bool, nu: bool) -> Given
+    ensures { λ g. ⌜ g ≡ givenBy t n kind eps shrinking nu ⌝ }
 {
     Given {
         n,
         side: n,
         kind,
-        floor: Alpha::curvature_floor(),
+        floor: t.floor,
         eps,
         shrinking,
         nu,
@@ -67,19 +67,15 @@ pub fn fit(
     c: &[f64],
     a: &[f64],
     p: &[f64],
-    n: usize,
-    kind: Kind,
-    eps: f64,
-    shrinking: bool,
-    nu: bool,
+    g: Given,
     how: Finish,
     budget: u64,
 ) -> Outcome
-    requires { ⌜ (Room n (length (now m)) (length (now cr)) (length (now h)) (length (now f)) (length (now u)) (length (now y))) × (Matrix n (now m)) × (budget ≤ 10000000) × (n ≤ length (now l)) × (n ≤ length (now c)) × (n ≤ length (now a)) × (n ≤ length (now p)) ⌝ }
+    requires { ⌜ (g .side ≡ g .n) × (Room (g .n) (length (now m)) (length (now cr)) (length (now h)) (length (now f)) (length (now u)) (length (now y))) × (Matrix (g .n) (now m)) × (budget ≤ 10000000)
+        × (g .n ≤ length (now l)) × (g .n ≤ length (now c)) × (g .n ≤ length (now a)) × (g .n ≤ length (now p)) ⌝ }
     ensures { λ o. ⌜ _≡_ {A = Whole} (whole o (now (cr .exit)) (now (h .exit)) (now (f .exit)) (now (u .exit)) (now (y .exit)))
-        (fitted (givenOf n kind eps shrinking nu) how (now (m .entry)) (now (l .entry)) (now (c .entry)) (now (a .entry)) (now (p .entry)) budget (lent (now (cr .entry)) (now (h .entry)) (now (f .entry)) (now (u .entry)) (now (y .entry)))) ⌝ }
+        (fitted g how (now (m .entry)) (now (l .entry)) (now (c .entry)) (now (a .entry)) (now (p .entry)) budget (lent (now (cr .entry)) (now (h .entry)) (now (f .entry)) (now (u .entry)) (now (y .entry)))) ⌝ }
 {
-    fits::load(f, u, y, l, c, a, p, n);
-    let g = given(n, kind, eps, shrinking, nu);
+    fits::load(f, u, y, l, c, a, p, g.n);
     solve(cr, h, f, u, y, m, l, c, g, how, budget as usize)
 }

@@ -1,11 +1,11 @@
-// The C entry: refusals 1 to 10 first, then the run.
+// The C entry: refusals 1 to 10 and 14 first, then the run. Under a tuning, and under the plain one.
 ghost use mathlib.Core.Path.{_≡_};
 ghost use mathlib.Core.Bool.{Bool, false};
 ghost use Prim.Native.Nat.{ℕ, _*_, _≤_};
 ghost use lib.ListN.{length};
 ghost use Rattle.alpha.specs.Weight.{minusOne};
 ghost use Rattle.answer.specs.Lent.{lent, Whole, whole};
-ghost use Rattle.classification.specs.Entries.{givenOf, fitted, fitCSized, fitCOf};
+ghost use Rattle.classification.specs.Entries.{givenBy, fitted, fitCTunedSized, fitCTuned, fitCOf};
 ghost use Rattle.fits.specs.Starts.{nothing, evenly, costsTo};
 ghost use Rattle.judge.specs.Sizes.{Room};
 ghost use Rattle.kernel.specs.Matrix.{Matrix};
@@ -13,6 +13,7 @@ use answer::Finish;
 use answer::Outcome;
 use judge::Judged;
 use kernel::Kind;
+use tuning::Tuning;
 
 fn started(
     n: usize,
@@ -23,6 +24,7 @@ fn started(
     eps: f64,
     shrinking: bool,
     budget: u64,
+    t: Tuning,
     cr: &mut [f64],
     h: &mut [f64],
     f: &mut [f64],
@@ -31,32 +33,15 @@ fn started(
 ) -> Outcome
     requires { ⌜ (Room n (length (now m)) (length (now cr)) (length (now h)) (length (now f)) (length (now u)) (length (now y))) × (Matrix n (now m)) × (budget ≤ 10000000) × (n ≤ length (now l)) ⌝ }
     ensures { λ o. ⌜ _≡_ {A = Whole} (whole o (now (cr .exit)) (now (h .exit)) (now (f .exit)) (now (u .exit)) (now (y .exit)))
-        (fitted (givenOf n Kind.TwoClass eps shrinking false) Finish.Signed (now (m .entry)) (now (l .entry)) (costsTo cpos cneg (now (l .entry)) nothing n) nothing (evenly minusOne n) budget (lent (now (cr .entry)) (now (h .entry)) (now (f .entry)) (now (u .entry)) (now (y .entry)))) ⌝ }
+        (fitted (givenBy t n Kind.TwoClass eps shrinking false) Finish.Signed (now (m .entry)) (now (l .entry)) (costsTo cpos cneg (now (l .entry)) nothing n) nothing (evenly minusOne n) budget (lent (now (cr .entry)) (now (h .entry)) (now (f .entry)) (now (u .entry)) (now (y .entry)))) ⌝ }
 {
     let mut c = [0.0f64; 512];
     let a = [0.0f64; 512];
     let mut p = [0.0f64; 512];
     fits::ceilings_c(&mut c, l, cpos, cneg, n);
     lists::fill_floats(&mut p, -1.0, n);
-    classification::fit(
-        cr,
-        h,
-        f,
-        u,
-        y,
-        m,
-        l,
-        &c,
-        &a,
-        &p,
-        n,
-        Kind::TwoClass,
-        eps,
-        shrinking,
-        false,
-        Finish::Signed,
-        budget,
-    )
+    let g = classification::given(t, n, Kind::TwoClass, eps, shrinking, false);
+    classification::fit(cr, h, f, u, y, m, l, &c, &a, &p, g, Finish::Signed, budget)
 }
 
 // After refusals 1 and 2.
@@ -69,6 +54,7 @@ pub fn sized(
     eps: f64,
     shrinking: bool,
     budget: u64,
+    t: Tuning,
     cr: &mut [f64],
     h: &mut [f64],
     f: &mut [f64],
@@ -77,16 +63,84 @@ pub fn sized(
 ) -> Outcome
     requires { ⌜ (Room n (length (now m)) (length (now cr)) (length (now h)) (length (now f)) (length (now u)) (length (now y))) × (n ≤ length (now l)) ⌝ }
     ensures { λ o. ⌜ _≡_ {A = Whole} (whole o (now (cr .exit)) (now (h .exit)) (now (f .exit)) (now (u .exit)) (now (y .exit)))
-        (fitCSized n (now (m .entry)) (now (l .entry)) cpos cneg eps shrinking budget (lent (now (cr .entry)) (now (h .entry)) (now (f .entry)) (now (u .entry)) (now (y .entry)))) ⌝ }
+        (fitCTunedSized t n (now (m .entry)) (now (l .entry)) cpos cneg eps shrinking budget (lent (now (cr .entry)) (now (h .entry)) (now (f .entry)) (now (u .entry)) (now (y .entry)))) ⌝ }
 {
-    let j = verdict::c_judged(n, m, l, cpos, cneg, eps, budget);
+    let j10 = verdict::c_judged(n, m, l, cpos, cneg, eps, budget);
+    let j = judge::floor_judged(j10, t.floor);
     match j {
-        Judged::Fine => started(n, m, l, cpos, cneg, eps, shrinking, budget, cr, h, f, u, y),
+        Judged::Fine => started(
+            n,
+            m,
+            l,
+            cpos,
+            cneg,
+            eps,
+            shrinking,
+            budget,
+            t,
+            cr,
+            h,
+            f,
+            u,
+            y,
+        ),
         Judged::Bad(number, index) => Outcome::Refused(number, index),
     }
 }
 
 // A ceiling for each label.
+pub fn fit_c_tuned(
+    n: usize,
+    m: &[u8],
+    l: &[u8],
+    cpos: f64,
+    cneg: f64,
+    eps: f64,
+    shrinking: bool,
+    budget: u64,
+    t: Tuning,
+    cr: &mut [f64],
+    h: &mut [f64],
+    f: &mut [f64],
+    u: &mut [u64],
+    y: &mut [u8],
+) -> Outcome
+    ensures { λ o. ⌜ _≡_ {A = Whole} (whole o (now (cr .exit)) (now (h .exit)) (now (f .exit)) (now (u .exit)) (now (y .exit)))
+        (fitCTuned t n (now (m .entry)) (now (l .entry)) cpos cneg eps shrinking budget (lent (now (cr .entry)) (now (h .entry)) (now (f .entry)) (now (u .entry)) (now (y .entry)))) ⌝ }
+{
+    let inputs = l.len() == n;
+    let s = judge::sized(
+        n,
+        inputs,
+        m.len(),
+        cr.len(),
+        h.len(),
+        f.len(),
+        u.len(),
+        y.len(),
+    );
+    if s == 0 {
+        return sized(
+            n,
+            m,
+            l,
+            cpos,
+            cneg,
+            eps,
+            shrinking,
+            budget,
+            t,
+            cr,
+            h,
+            f,
+            u,
+            y,
+        );
+    }
+    Outcome::Refused(s, 0)
+}
+
+// The same with the floor of the published Rust.
 pub fn fit_c(
     n: usize,
     m: &[u8],
@@ -105,19 +159,21 @@ pub fn fit_c(
     ensures { λ o. ⌜ _≡_ {A = Whole} (whole o (now (cr .exit)) (now (h .exit)) (now (f .exit)) (now (u .exit)) (now (y .exit)))
         (fitCOf n (now (m .entry)) (now (l .entry)) cpos cneg eps shrinking budget (lent (now (cr .entry)) (now (h .entry)) (now (f .entry)) (now (u .entry)) (now (y .entry)))) ⌝ }
 {
-    let inputs = l.len() == n;
-    let s = judge::sized(
+    let t = tuning::plain();
+    fit_c_tuned(
         n,
-        inputs,
-        m.len(),
-        cr.len(),
-        h.len(),
-        f.len(),
-        u.len(),
-        y.len(),
-    );
-    if s == 0 {
-        return sized(n, m, l, cpos, cneg, eps, shrinking, budget, cr, h, f, u, y);
-    }
-    Outcome::Refused(s, 0)
+        m,
+        l,
+        cpos,
+        cneg,
+        eps,
+        shrinking,
+        budget,
+        t,
+        cr,
+        h,
+        f,
+        u,
+        y,
+    )
 }

@@ -5,7 +5,7 @@ ghost use mathlib.Core.Bool.{cond, false as off};
 ghost use Prim.Native.Nat.{_*_, _≤_};
 ghost use lib.ListN.{length};
 ghost use Rattle.answer.specs.Lent.{lent, Whole, whole};
-ghost use Rattle.classification.specs.Entries.{givenOf};
+ghost use Rattle.classification.specs.Entries.{givenBy};
 ghost use Rattle.fits.specs.Load.{loadedFloats, loaded};
 ghost use Rattle.kernel.specs.Matrix.{Matrix};
 ghost use Rattle.judge.specs.Sizes.{Room};
@@ -13,7 +13,7 @@ ghost use Rattle.standing.specs.End.{objectiveOver};
 ghost use Rattle.solver.specs.Run.{problemOf};
 ghost use Rattle.state.specs.Lists.{State, state, Ready};
 ghost use Rattle.travel.specs.Travel.{Paired};
-ghost use Rattle.retired.specs.Entry.{standsIn, kept, fittedOver, retiredSized, retiredOf};
+ghost use Rattle.retired.specs.Entry.{standsIn, kept, fittedOver, retiredTunedSized, retiredTuned, retiredOf};
 ghost use Rattle.retired.specs.Coded.{withObj, solvedSilent};
 ghost use Rattle.retired.specs.Silenced.{silenced};
 use answer::Answer;
@@ -22,6 +22,7 @@ use answer::Outcome;
 use judge::Judged;
 use kernel::Kind;
 use solver::Given;
+use tuning::Tuning;
 
 fn pick(stands: bool, a: f64, x: f64) -> f64
     ensures { λ z. ⌜ z ≡ cond stands a x ⌝ }
@@ -143,13 +144,14 @@ fn fit(
     eps: f64,
     nu: bool,
     budget: u64,
+    t: Tuning,
 ) -> Outcome
     requires { ⌜ (Room n (length (now m)) (length (now cr)) (length (now h)) (length (now f)) (length (now u)) (length (now y))) × (Matrix n (now m)) × (budget ≤ 10000000) × (n ≤ length (now l)) × (n ≤ length (now c)) × (n ≤ length (now a)) × (n ≤ length (now p)) × (n ≤ length (now r)) ⌝ }
     ensures { λ o. ⌜ _≡_ {A = Whole} (whole o (now (cr .exit)) (now (h .exit)) (now (f .exit)) (now (u .exit)) (now (y .exit)))
-        (fittedOver (standsIn (now (r .entry))) (givenOf n Kind.TwoClass eps off nu) (now (m .entry)) (now (l .entry)) (now (c .entry)) (kept (now (r .entry)) (now (a .entry)) n) (kept (now (r .entry)) (now (p .entry)) n) budget (lent (now (cr .entry)) (now (h .entry)) (now (f .entry)) (now (u .entry)) (now (y .entry)))) ⌝ }
+        (fittedOver (standsIn (now (r .entry))) (givenBy t n Kind.TwoClass eps off nu) (now (m .entry)) (now (l .entry)) (now (c .entry)) (kept (now (r .entry)) (now (a .entry)) n) (kept (now (r .entry)) (now (p .entry)) n) budget (lent (now (cr .entry)) (now (h .entry)) (now (f .entry)) (now (u .entry)) (now (y .entry)))) ⌝ }
 {
     load(f, u, y, l, c, a, p, r, n);
-    let g = classification::given(n, Kind::TwoClass, eps, false, nu);
+    let g = classification::given(t, n, Kind::TwoClass, eps, false, nu);
     solve(cr, h, f, u, y, m, l, c, r, g, budget as usize)
 }
 
@@ -166,6 +168,7 @@ pub fn sized(
     eps: f64,
     shrinking: bool,
     budget: u64,
+    t: Tuning,
     cr: &mut [f64],
     h: &mut [f64],
     f: &mut [f64],
@@ -174,17 +177,17 @@ pub fn sized(
 ) -> Outcome
     requires { ⌜ (Room n (length (now m)) (length (now cr)) (length (now h)) (length (now f)) (length (now u)) (length (now y))) × (n ≤ length (now l)) × (n ≤ length (now c)) × (n ≤ length (now a)) × (n ≤ length (now p)) × (n ≤ length (now r)) ⌝ }
     ensures { λ o. ⌜ _≡_ {A = Whole} (whole o (now (cr .exit)) (now (h .exit)) (now (f .exit)) (now (u .exit)) (now (y .exit)))
-        (retiredSized n (now (m .entry)) (now (l .entry)) (now (c .entry)) (now (a .entry)) (now (p .entry)) (now (r .entry)) nurule eps shrinking budget (lent (now (cr .entry)) (now (h .entry)) (now (f .entry)) (now (u .entry)) (now (y .entry)))) ⌝ }
+        (retiredTunedSized t n (now (m .entry)) (now (l .entry)) (now (c .entry)) (now (a .entry)) (now (p .entry)) (now (r .entry)) nurule eps shrinking budget (lent (now (cr .entry)) (now (h .entry)) (now (f .entry)) (now (u .entry)) (now (y .entry)))) ⌝ }
 {
-    let j = verdict::retired_judged(n, m, l, c, a, p, r, eps, shrinking, budget);
+    let j = verdict::retired_judged(n, m, l, c, a, p, r, eps, shrinking, budget, t.floor);
     match j {
-        Judged::Fine => fit(cr, h, f, u, y, m, l, c, a, p, r, n, eps, nurule, budget),
+        Judged::Fine => fit(cr, h, f, u, y, m, l, c, a, p, r, n, eps, nurule, budget, t),
         Judged::Bad(number, index) => Outcome::Refused(number, index),
     }
 }
 
 // The general entry, with a byte for each sample that says whether it is retired.
-pub fn fit_retired(
+pub fn fit_retired_tuned(
     n: usize,
     m: &[u8],
     l: &[u8],
@@ -196,6 +199,7 @@ pub fn fit_retired(
     eps: f64,
     shrinking: bool,
     budget: u64,
+    t: Tuning,
     cr: &mut [f64],
     h: &mut [f64],
     f: &mut [f64],
@@ -203,7 +207,7 @@ pub fn fit_retired(
     y: &mut [u8],
 ) -> Outcome
     ensures { λ o. ⌜ _≡_ {A = Whole} (whole o (now (cr .exit)) (now (h .exit)) (now (f .exit)) (now (u .exit)) (now (y .exit)))
-        (retiredOf n (now (m .entry)) (now (l .entry)) (now (c .entry)) (now (a .entry)) (now (p .entry)) (now (r .entry)) nurule eps shrinking budget (lent (now (cr .entry)) (now (h .entry)) (now (f .entry)) (now (u .entry)) (now (y .entry)))) ⌝ }
+        (retiredTuned t n (now (m .entry)) (now (l .entry)) (now (c .entry)) (now (a .entry)) (now (p .entry)) (now (r .entry)) nurule eps shrinking budget (lent (now (cr .entry)) (now (h .entry)) (now (f .entry)) (now (u .entry)) (now (y .entry)))) ⌝ }
 {
     let inputs = (l.len() == n) & (c.len() == n) & (a.len() == n) & (p.len() == n) & (r.len() == n);
     let s = judge::sized(
@@ -229,6 +233,7 @@ pub fn fit_retired(
             eps,
             shrinking,
             budget,
+            t,
             cr,
             h,
             f,
@@ -237,4 +242,48 @@ pub fn fit_retired(
         );
     }
     Outcome::Refused(s, 0)
+}
+
+// The same with the floor of the published Rust.
+pub fn fit_retired(
+    n: usize,
+    m: &[u8],
+    l: &[u8],
+    c: &[f64],
+    a: &[f64],
+    p: &[f64],
+    r: &[u8],
+    nurule: bool,
+    eps: f64,
+    shrinking: bool,
+    budget: u64,
+    cr: &mut [f64],
+    h: &mut [f64],
+    f: &mut [f64],
+    u: &mut [u64],
+    y: &mut [u8],
+) -> Outcome
+    ensures { λ o. ⌜ _≡_ {A = Whole} (whole o (now (cr .exit)) (now (h .exit)) (now (f .exit)) (now (u .exit)) (now (y .exit)))
+        (retiredOf n (now (m .entry)) (now (l .entry)) (now (c .entry)) (now (a .entry)) (now (p .entry)) (now (r .entry)) nurule eps shrinking budget (lent (now (cr .entry)) (now (h .entry)) (now (f .entry)) (now (u .entry)) (now (y .entry)))) ⌝ }
+{
+    let t = tuning::plain();
+    fit_retired_tuned(
+        n,
+        m,
+        l,
+        c,
+        a,
+        p,
+        r,
+        nurule,
+        eps,
+        shrinking,
+        budget,
+        t,
+        cr,
+        h,
+        f,
+        u,
+        y,
+    )
 }

@@ -13,20 +13,21 @@ use lib.Ieee.Bits.{ofBits-fits, toBits-lt}
 use lib.Ieee.Fits.{cond-fits}
 use lib.ListN.{length, getD, length-replicate, getD-replicate}
 use Rattle.alpha.specs.Weight as Weight
-use Rattle.altuliscia.specs.Functions.{isOn, asFloat, byteSizes, generalInputs, generalHost, cHost, nuHost, oneClassHost}
+use Rattle.altuliscia.specs.Functions.{generalHostBy, cHostBy, nuHostBy, oneClassHostBy}
 use Rattle.answer.specs.Lent.{Lent, Whole}
 use Rattle.answer.specs.declared.Answer.{Answer}
 use Rattle.answer.specs.declared.Outcome.{Outcome}
 use Rattle.answer.specs.declared.Outcome.the-variants.{Accepted, Refused}
 use Rattle.boxed.specs.Range.{In}
-use Rattle.classification.specs.Entries.{fitted, decided, entered, generalSized, fitCSized, fitCOf, fitNuSized, fitNuOf, fitOneClassSized, fitOneClassOf}
+use Rattle.classification.specs.Entries.{fitted, decided, entered, generalTunedSized, fitCTunedSized, fitCTuned, fitNuTunedSized, fitNuTuned, fitOneClassTunedSized, fitOneClassTuned}
 use Rattle.classification.proofs.Laws.{Usable, usable-general, usable-c, usable-nu, usable-one-class}
 use Rattle.extreme.specs.declared.Choice.the-variants.{Pair}
-use Rattle.hosted.specs.Hosted.{decodedTo, floatsOf, storedTo, room, Handed, handed, deliveredBy, delivered, turnedAway, hostedBy, freshPlaces, freshFloats, freshNumbers, freshBytes, answeredBy}
+use Rattle.hosted.specs.Hosted.{isOn, asFloat, byteSizes, generalInputs, decodedTo, floatsOf, storedTo, room, Handed, handed, deliveredBy, delivered, turnedAway, hostedBy, freshPlaces, freshFloats, freshNumbers, freshBytes, answeredBy}
 use Rattle.hosted.proofs.Serves.{Serves, inputs-right, serves}
 use Rattle.fits.proofs.Starts.{cost-at}
-use Rattle.judge.specs.Judge.{generalJudged, cJudged, nuJudged, oneClassJudged}
+use Rattle.judge.specs.Judge.{generalJudged, cJudged, nuJudged, oneClassJudged, floorJudged}
 use Rattle.judge.specs.Sizes.{sizes, Room}
+use Rattle.judge.proofs.Accepted.{floor-fine}
 use Rattle.judge.specs.declared.Judged.{Judged}
 use Rattle.judge.specs.declared.Judged.the-variants.{Fine}
 use Rattle.lists.proofs.Prefix.{prefix-at}
@@ -38,12 +39,13 @@ use Rattle.promises.proofs.Boxes.{general-common, nu-home-box, one-class-home-b
 use Rattle.finder.proofs.Doubles.{Double}
 use Rattle.promises.proofs.Doubles.{coefficient-doubled, served-own-double}
 use Rattle.promises.proofs.Home.{served-home}
-use Rattle.promises.proofs.Numbers.{general-sized-number, c-sized-number, nu-sized-number, one-class-sized-number}
+use Rattle.promises.proofs.Numbers.{general-sized-number, c-sized-number, nu-sized-number, one-class-sized-number, some-number}
 use Rattle.promises.proofs.Travel.{Served, served-travels}
 use Rattle.rounding.specs.Units.{NotNan}
 use Rattle.travel.specs.Home.{lastLeft}
 use Rattle.travel.specs.Travel.{Travelled}
 use Rattle.wire.specs.Wire.{digits, floatAt}
+use Rattle.tuning.specs.declared.Tuning.{Tuning}
 use Rattle.handed.specs.Gives.{Gives}
 use Rattle.handed.specs.Trains.{generalTrains, cTrains, nuTrains, oneClassTrains}
 use Rattle.handed.proofs.Stored.{stored-at}
@@ -150,34 +152,34 @@ decoded-double b n i few h = rw (floats-at b n i few h) (ofBits-fits binary64 _)
 
 -- ---- the four functions
 
-module _ (n : ℕ) (m l c a p : List ℕ) (nurule eps shrinking budget : ℕ) (cr h an : List ℕ) (z : generalHost n m l c a p nurule eps shrinking budget cr h an .code ≡ 0) where
+module _ (tune : Tuning) (n : ℕ) (m l c a p : List ℕ) (nurule eps shrinking budget : ℕ) (cr h an : List ℕ) (z : generalHostBy tune n m l c a p nurule eps shrinking budget cr h an .code ≡ 0) where
   abbrev generalK : Fit
-  generalK = generalTrains n l c a p nurule eps shrinking
+  generalK = generalTrains tune n l c a p nurule eps shrinking
 
   abbrev generalW : Whole
-  generalW = generalSized n m l (floatsOf c n) (floatsOf a n) (floatsOf p n) (isOn nurule) (asFloat eps) (isOn shrinking) budget room
+  generalW = generalTunedSized tune n m l (floatsOf c n) (floatsOf a n) (floatsOf p n) (isOn nurule) (asFloat eps) (isOn shrinking) budget room
 
-  pub general-ran : (byteSizes n (generalInputs n l c a p) m cr h an ≡ 0) × (generalJudged n m l (floatsOf c n) (floatsOf a n) (floatsOf p n) (asFloat eps) budget ≡ Fine) × Ran (generalTrains n l c a p nurule eps shrinking) m cr h an budget generalW (generalHost n m l c a p nurule eps shrinking budget cr h an)
-  unfolding generalHost generalSized
+  pub general-ran : (byteSizes n (generalInputs n l c a p) m cr h an ≡ 0) × (floorJudged (tune .floor) (generalJudged n m l (floatsOf c n) (floatsOf a n) (floatsOf p n) (asFloat eps) budget) ≡ Fine) × Ran (generalTrains tune n l c a p nurule eps shrinking) m cr h an budget generalW (generalHostBy tune n m l c a p nurule eps shrinking budget cr h an)
+  unfolding generalHostBy generalTunedSized
   general-ran =
-      ran generalK m cr h an budget (byteSizes n (generalInputs n l c a p) m cr h an) (generalJudged n m l (floatsOf c n) (floatsOf a n) (floatsOf p n) (asFloat eps) budget) refl
+      ran generalK m cr h an budget (byteSizes n (generalInputs n l c a p) m cr h an) (floorJudged (tune .floor) (generalJudged n m l (floatsOf c n) (floatsOf a n) (floatsOf p n) (asFloat eps) budget)) refl
       (serves n (generalInputs n l c a p) (length m) (length cr) (length h) (length an))
-      (λ most long. usable-general n m budget most long l (floatsOf c n) (floatsOf a n) (floatsOf p n) (asFloat eps))
-      (λ q i e. general-sized-number n m l (floatsOf c n) (floatsOf a n) (floatsOf p n) (isOn nurule) (asFloat eps) (isOn shrinking) budget room q i e .0)
+      (λ most long f. usable-general n m budget most long l (floatsOf c n) (floatsOf a n) (floatsOf p n) (asFloat eps) (floor-fine (tune .floor) _ f .0))
+      (λ q i e. some-number (tune .floor) (isOn shrinking) q (general-sized-number tune n m l (floatsOf c n) (floatsOf a n) (floatsOf p n) (isOn nurule) (asFloat eps) (isOn shrinking) budget room q i e))
       z
 
-  pub general-gives : Gives (generalTrains n l c a p nurule eps shrinking) m budget (generalHost n m l c a p nurule eps shrinking budget cr h an)
+  pub general-gives : Gives (generalTrains tune n l c a p nurule eps shrinking) m budget (generalHostBy tune n m l c a p nurule eps shrinking budget cr h an)
   general-gives =
       let r = general-ran .2 in
       gives r (served-own-double (r .served) (λ i g. decoded-double c n i (r .served .room .most) g) (λ i g. decoded-double a n i (r .served .room .most) g) (r .out .answer) (r .out .accepted))
 
-  -- the training was accepted, and its answer is what is written: said of `generalSized`, since the entry `generalOf` asks for lists of n places, and what
+  -- the training was accepted, and its answer is what is written: said of `generalTunedSized`, since the entry `generalOf` asks for lists of n places, and what
   -- is read from the bytes has 512
-  pub general-called : (x : Answer) × (generalSized n m l (floatsOf c n) (floatsOf a n) (floatsOf p n) (isOn nurule) (asFloat eps) (isOn shrinking) budget room .out ≡ Accepted x)
-      × (generalHost n m l c a p nurule eps shrinking budget cr h an .answer ≡ answeredBy (Accepted x) an)
+  pub general-called : (x : Answer) × (generalTunedSized tune n m l (floatsOf c n) (floatsOf a n) (floatsOf p n) (isOn nurule) (asFloat eps) (isOn shrinking) budget room .out ≡ Accepted x)
+      × (generalHostBy tune n m l c a p nurule eps shrinking budget cr h an .answer ≡ answeredBy (Accepted x) an)
   general-called = let r = general-ran .2 in (r .out .answer, r .out .accepted, r .out .told)
 
-  pub general-called-travels : (t : ℕ) → Travelled n (λ s. getD l s 0) (λ s. getD (floatsOf p n) s nan) (after (generalTrains n l c a p nurule eps shrinking) m room t .state)
+  pub general-called-travels : (t : ℕ) → Travelled n (λ s. getD l s 0) (λ s. getD (floatsOf p n) s nan) (after (generalTrains tune n l c a p nurule eps shrinking) m room t .state)
   general-called-travels = served-travels (general-ran .2 .served)
 
   -- the box, where every lent ceiling is b
@@ -185,35 +187,35 @@ module _ (n : ℕ) (m l c a p : List ℕ) (nurule eps shrinking budget : ℕ) (c
     one-b : Common generalK m b
     one-b =
         let r = general-ran in
-        general-common n m l (floatsOf c n) (floatsOf a n) (floatsOf p n) (isOn nurule) (asFloat eps) (isOn shrinking) budget (r .2 .served .room .some) (r .1) b fit same
+        general-common tune n m l (floatsOf c n) (floatsOf a n) (floatsOf p n) (isOn nurule) (asFloat eps) (isOn shrinking) budget (r .2 .served .room .some) (floor-fine (tune .floor) _ (r .1) .0) (floor-fine (tune .floor) _ (r .1) .1) b fit same
         (λ i g. decoded-double a n i (r .2 .served .room .most) g)
 
-    pub general-called-box : (t i : ℕ) → i < n → In b (weightAfter (generalTrains n l c a p nurule eps shrinking) m room t i)
+    pub general-called-box : (t i : ℕ) → i < n → In b (weightAfter (generalTrains tune n l c a p nurule eps shrinking) m room t i)
     general-called-box = served-box (general-ran .2 .served) one-b
 
-    pub general-called-no-nan : (t i j : ℕ) → pairAfter (generalTrains n l c a p nurule eps shrinking) m room t ≡ Pair i j → NotNan (deltaAfter (generalTrains n l c a p nurule eps shrinking) m room t i j)
+    pub general-called-no-nan : (t i j : ℕ) → pairAfter (generalTrains tune n l c a p nurule eps shrinking) m room t ≡ Pair i j → NotNan (deltaAfter (generalTrains tune n l c a p nurule eps shrinking) m room t i j)
     general-called-no-nan = served-no-nan (general-ran .2 .served) one-b
 
-    pub general-called-home-box : (s : ℕ) → s < n → In b (lastLeft (stepsTaken (generalTrains n l c a p nurule eps shrinking) m room budget) s (getD (floatsOf a n) s nan))
+    pub general-called-home-box : (s : ℕ) → s < n → In b (lastLeft (stepsTaken (generalTrains tune n l c a p nurule eps shrinking) m room budget) s (getD (floatsOf a n) s nan))
     general-called-home-box = served-home-box (general-ran .2 .served) one-b
 
-module _ (n : ℕ) (m l : List ℕ) (cpos cneg eps shrinking budget : ℕ) (cr h an : List ℕ) (z : cHost n m l cpos cneg eps shrinking budget cr h an .code ≡ 0) where
+module _ (tune : Tuning) (n : ℕ) (m l : List ℕ) (cpos cneg eps shrinking budget : ℕ) (cr h an : List ℕ) (z : cHostBy tune n m l cpos cneg eps shrinking budget cr h an .code ≡ 0) where
   abbrev cK : Fit
-  cK = cTrains n l cpos cneg eps shrinking
+  cK = cTrains tune n l cpos cneg eps shrinking
 
   abbrev cW : Whole
-  cW = fitCSized n m l (asFloat cpos) (asFloat cneg) (asFloat eps) (isOn shrinking) budget room
+  cW = fitCTunedSized tune n m l (asFloat cpos) (asFloat cneg) (asFloat eps) (isOn shrinking) budget room
 
-  pub c-ran : (byteSizes n (eqb (length l) n) m cr h an ≡ 0) × (cJudged n m l (asFloat cpos) (asFloat cneg) (asFloat eps) budget ≡ Fine) × Ran (cTrains n l cpos cneg eps shrinking) m cr h an budget cW (cHost n m l cpos cneg eps shrinking budget cr h an)
-  unfolding cHost fitCSized
+  pub c-ran : (byteSizes n (eqb (length l) n) m cr h an ≡ 0) × (floorJudged (tune .floor) (cJudged n m l (asFloat cpos) (asFloat cneg) (asFloat eps) budget) ≡ Fine) × Ran (cTrains tune n l cpos cneg eps shrinking) m cr h an budget cW (cHostBy tune n m l cpos cneg eps shrinking budget cr h an)
+  unfolding cHostBy fitCTunedSized
   c-ran =
-      ran cK m cr h an budget (byteSizes n (eqb (length l) n) m cr h an) (cJudged n m l (asFloat cpos) (asFloat cneg) (asFloat eps) budget) refl
+      ran cK m cr h an budget (byteSizes n (eqb (length l) n) m cr h an) (floorJudged (tune .floor) (cJudged n m l (asFloat cpos) (asFloat cneg) (asFloat eps) budget)) refl
       (serves n (eqb (length l) n) (length m) (length cr) (length h) (length an))
-      (λ most long. usable-c n m budget most long l (asFloat cpos) (asFloat cneg) (asFloat eps))
-      (λ q i e. c-sized-number n m l (asFloat cpos) (asFloat cneg) (asFloat eps) (isOn shrinking) budget room q i e .0)
+      (λ most long f. usable-c n m budget most long l (asFloat cpos) (asFloat cneg) (asFloat eps) (floor-fine (tune .floor) _ f .0))
+      (λ q i e. some-number (tune .floor) (isOn shrinking) q (c-sized-number tune n m l (asFloat cpos) (asFloat cneg) (asFloat eps) (isOn shrinking) budget room q i e))
       z
 
-  pub c-gives : Gives (cTrains n l cpos cneg eps shrinking) m budget (cHost n m l cpos cneg eps shrinking budget cr h an)
+  pub c-gives : Gives (cTrains tune n l cpos cneg eps shrinking) m budget (cHostBy tune n m l cpos cneg eps shrinking budget cr h an)
   c-gives =
       let r = c-ran .2 in
       let most = r .served .room .most in
@@ -223,70 +225,70 @@ module _ (n : ℕ) (m l : List ℕ) (cpos cneg eps shrinking budget : ℕ) (cr h
       (r .out .answer) (r .out .accepted))
 
   -- the entry accepts, so all that is promised of it holds; and its answer is what is written
-  pub c-called : (x : Answer) × (fitCOf n m l (asFloat cpos) (asFloat cneg) (asFloat eps) (isOn shrinking) budget room .out ≡ Accepted x)
-      × (cHost n m l cpos cneg eps shrinking budget cr h an .answer ≡ answeredBy (Accepted x) an)
-  unfolding fitCOf
+  pub c-called : (x : Answer) × (fitCTuned tune n m l (asFloat cpos) (asFloat cneg) (asFloat eps) (isOn shrinking) budget room .out ≡ Accepted x)
+      × (cHostBy tune n m l cpos cneg eps shrinking budget cr h an .answer ≡ answeredBy (Accepted x) an)
+  unfolding fitCTuned
   c-called =
       let r = c-ran in
       let i = inputs-right n (eqb (length l) n) (length m) (length cr) (length h) (length an) (r .0) in
       (r .2 .out .answer, ap (λ (q : Whole). q .out) (let-in n (eqb (length l) n) _ _ _ _ _ _ cW room i (r .2 .served .room)) ∙ r .2 .out .accepted, r .2 .out .told)
 
-module _ (n : ℕ) (m l : List ℕ) (nu eps shrinking budget : ℕ) (cr h an : List ℕ) (z : nuHost n m l nu eps shrinking budget cr h an .code ≡ 0) where
+module _ (tune : Tuning) (n : ℕ) (m l : List ℕ) (nu eps shrinking budget : ℕ) (cr h an : List ℕ) (z : nuHostBy tune n m l nu eps shrinking budget cr h an .code ≡ 0) where
   abbrev nuK : Fit
-  nuK = nuTrains n l nu eps shrinking
+  nuK = nuTrains tune n l nu eps shrinking
 
   abbrev nuW : Whole
-  nuW = fitNuSized n m l (asFloat nu) (asFloat eps) (isOn shrinking) budget room
+  nuW = fitNuTunedSized tune n m l (asFloat nu) (asFloat eps) (isOn shrinking) budget room
 
-  pub nu-ran : (byteSizes n (eqb (length l) n) m cr h an ≡ 0) × (nuJudged n m l (asFloat nu) (asFloat eps) budget ≡ Fine) × Ran (nuTrains n l nu eps shrinking) m cr h an budget nuW (nuHost n m l nu eps shrinking budget cr h an)
-  unfolding nuHost fitNuSized
+  pub nu-ran : (byteSizes n (eqb (length l) n) m cr h an ≡ 0) × (floorJudged (tune .floor) (nuJudged n m l (asFloat nu) (asFloat eps) budget) ≡ Fine) × Ran (nuTrains tune n l nu eps shrinking) m cr h an budget nuW (nuHostBy tune n m l nu eps shrinking budget cr h an)
+  unfolding nuHostBy fitNuTunedSized
   nu-ran =
-      ran nuK m cr h an budget (byteSizes n (eqb (length l) n) m cr h an) (nuJudged n m l (asFloat nu) (asFloat eps) budget) refl
+      ran nuK m cr h an budget (byteSizes n (eqb (length l) n) m cr h an) (floorJudged (tune .floor) (nuJudged n m l (asFloat nu) (asFloat eps) budget)) refl
       (serves n (eqb (length l) n) (length m) (length cr) (length h) (length an))
-      (λ most long. usable-nu n m budget most long l (asFloat nu) (asFloat eps))
-      (λ q i e. nu-sized-number n m l (asFloat nu) (asFloat eps) (isOn shrinking) budget room q i e .0)
+      (λ most long f. usable-nu n m budget most long l (asFloat nu) (asFloat eps) (floor-fine (tune .floor) _ f .0))
+      (λ q i e. some-number (tune .floor) (isOn shrinking) q (nu-sized-number tune n m l (asFloat nu) (asFloat eps) (isOn shrinking) budget room q i e))
       z
 
   -- the entry accepts, so all that is promised of it holds; and its answer is what is written
-  pub nu-called : (x : Answer) × (fitNuOf n m l (asFloat nu) (asFloat eps) (isOn shrinking) budget room .out ≡ Accepted x)
-      × (nuHost n m l nu eps shrinking budget cr h an .answer ≡ answeredBy (Accepted x) an)
-  unfolding fitNuOf
+  pub nu-called : (x : Answer) × (fitNuTuned tune n m l (asFloat nu) (asFloat eps) (isOn shrinking) budget room .out ≡ Accepted x)
+      × (nuHostBy tune n m l nu eps shrinking budget cr h an .answer ≡ answeredBy (Accepted x) an)
+  unfolding fitNuTuned
   nu-called =
       let r = nu-ran in
       let i = inputs-right n (eqb (length l) n) (length m) (length cr) (length h) (length an) (r .0) in
       (r .2 .out .answer, ap (λ (q : Whole). q .out) (let-in n (eqb (length l) n) _ _ _ _ _ _ nuW room i (r .2 .served .room)) ∙ r .2 .out .accepted, r .2 .out .told)
 
-  pub nu-gives : Gives (nuTrains n l nu eps shrinking) m budget (nuHost n m l nu eps shrinking budget cr h an)
+  pub nu-gives : Gives (nuTrains tune n l nu eps shrinking) m budget (nuHostBy tune n m l nu eps shrinking budget cr h an)
   nu-gives =
       gives (nu-ran .2) (λ s g. coefficient-doubled (nuK .how) _ (rOf nuK m room budget) _
-      (nu-home-box n m l (asFloat nu) (asFloat eps) (isOn shrinking) budget room (nu-called .0) (nu-called .1) (ofBits-fits binary64 nu) s g .number .fit))
+      (nu-home-box tune n m l (asFloat nu) (asFloat eps) (isOn shrinking) budget room (nu-called .0) (nu-called .1) (ofBits-fits binary64 nu) s g .number .fit))
 
-module _ (n : ℕ) (m : List ℕ) (nu eps shrinking budget : ℕ) (cr h an : List ℕ) (z : oneClassHost n m nu eps shrinking budget cr h an .code ≡ 0) where
+module _ (tune : Tuning) (n : ℕ) (m : List ℕ) (nu eps shrinking budget : ℕ) (cr h an : List ℕ) (z : oneClassHostBy tune n m nu eps shrinking budget cr h an .code ≡ 0) where
   abbrev oneClassK : Fit
-  oneClassK = oneClassTrains n nu eps shrinking
+  oneClassK = oneClassTrains tune n nu eps shrinking
 
   abbrev oneClassW : Whole
-  oneClassW = fitOneClassSized n m (asFloat nu) (asFloat eps) (isOn shrinking) budget room
+  oneClassW = fitOneClassTunedSized tune n m (asFloat nu) (asFloat eps) (isOn shrinking) budget room
 
-  pub one-class-ran : (byteSizes n true m cr h an ≡ 0) × (oneClassJudged n m (asFloat nu) (asFloat eps) budget ≡ Fine) × Ran (oneClassTrains n nu eps shrinking) m cr h an budget oneClassW (oneClassHost n m nu eps shrinking budget cr h an)
-  unfolding oneClassHost fitOneClassSized
+  pub one-class-ran : (byteSizes n true m cr h an ≡ 0) × (floorJudged (tune .floor) (oneClassJudged n m (asFloat nu) (asFloat eps) budget) ≡ Fine) × Ran (oneClassTrains tune n nu eps shrinking) m cr h an budget oneClassW (oneClassHostBy tune n m nu eps shrinking budget cr h an)
+  unfolding oneClassHostBy fitOneClassTunedSized
   one-class-ran =
-      ran oneClassK m cr h an budget (byteSizes n true m cr h an) (oneClassJudged n m (asFloat nu) (asFloat eps) budget) refl
+      ran oneClassK m cr h an budget (byteSizes n true m cr h an) (floorJudged (tune .floor) (oneClassJudged n m (asFloat nu) (asFloat eps) budget)) refl
       (serves n true (length m) (length cr) (length h) (length an))
-      (λ most long. usable-one-class n m budget most long (asFloat nu) (asFloat eps))
-      (λ q i e. one-class-sized-number n m (asFloat nu) (asFloat eps) (isOn shrinking) budget room q i e .0)
+      (λ most long f. usable-one-class n m budget most long (asFloat nu) (asFloat eps) (floor-fine (tune .floor) _ f .0))
+      (λ q i e. some-number (tune .floor) (isOn shrinking) q (one-class-sized-number tune n m (asFloat nu) (asFloat eps) (isOn shrinking) budget room q i e))
       z
 
   -- the entry accepts, so all that is promised of it holds; and its answer is what is written
-  pub one-class-called : (x : Answer) × (fitOneClassOf n m (asFloat nu) (asFloat eps) (isOn shrinking) budget room .out ≡ Accepted x)
-      × (oneClassHost n m nu eps shrinking budget cr h an .answer ≡ answeredBy (Accepted x) an)
-  unfolding fitOneClassOf
+  pub one-class-called : (x : Answer) × (fitOneClassTuned tune n m (asFloat nu) (asFloat eps) (isOn shrinking) budget room .out ≡ Accepted x)
+      × (oneClassHostBy tune n m nu eps shrinking budget cr h an .answer ≡ answeredBy (Accepted x) an)
+  unfolding fitOneClassTuned
   one-class-called =
       let r = one-class-ran in
       let i = inputs-right n true (length m) (length cr) (length h) (length an) (r .0) in
       (r .2 .out .answer, ap (λ (q : Whole). q .out) (let-in n true _ _ _ _ _ _ oneClassW room i (r .2 .served .room)) ∙ r .2 .out .accepted, r .2 .out .told)
 
-  pub one-class-gives : Gives (oneClassTrains n nu eps shrinking) m budget (oneClassHost n m nu eps shrinking budget cr h an)
+  pub one-class-gives : Gives (oneClassTrains tune n nu eps shrinking) m budget (oneClassHostBy tune n m nu eps shrinking budget cr h an)
   one-class-gives =
       gives (one-class-ran .2) (λ s g. coefficient-doubled (oneClassK .how) _ (rOf oneClassK m room budget) _
-      (one-class-home-box n m (asFloat nu) (asFloat eps) (isOn shrinking) budget room (one-class-called .0) (one-class-called .1) (ofBits-fits binary64 nu) s g .number .fit))
+      (one-class-home-box tune n m (asFloat nu) (asFloat eps) (isOn shrinking) budget room (one-class-called .0) (one-class-called .1) (ofBits-fits binary64 nu) s g .number .fit))

@@ -7,3 +7,4 @@ pub mod Leaves
 pub mod Threshold
 pub mod Trail
 pub mod Pair
+pub mod Tuned

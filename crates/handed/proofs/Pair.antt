@@ -10,12 +10,12 @@ use lib.Dec.{ltb}
 use lib.Ieee.{binary64, ofBits}
 use lib.Ieee.Bits.{ofBits-fits, toBits-lt, ofBits-toBits}
 use lib.ListN.{length}
-use Rattle.altuliscia.specs.Functions.{asFloat, pairHanded, pairHost}
+use Rattle.altuliscia.specs.Functions.{pairHanded, pairHost}
 use Rattle.boxed.specs.Range.{Ceiling, In, BothHeld}
 use Rattle.finder.specs.Found.{withPair}
 use Rattle.finder.proofs.Box.{found-box}
 use Rattle.finder.proofs.Doubles.{Doubled, found-doubled}
-use Rattle.hosted.specs.Hosted.{storedTo}
+use Rattle.hosted.specs.Hosted.{asFloat, storedTo}
 use Rattle.rounding.specs.Units.{NotNan}
 use Rattle.update.specs.declared.Pair.{Pair}
 use Rattle.wire.specs.Wire.{digits}

@@ -3,6 +3,7 @@
 use Prim.Native.Nat.{ℕ, _*_, _%_, _^_, _≤_, _<_}
 use mathlib.Core.Bool.{Bool, true, false, _&&_, cond}
 use mathlib.Core.List.{List}
+use mathlib.Core.Logic.{inl, inr}
 use mathlib.Core.Path.{_≡_, refl, sym, ap, _∙_}
 use native.Mathlib.Nat.{mod-eq-of-lt}
 use native.Mathlib.Omega.{arith}
@@ -12,30 +13,33 @@ use lib.Ieee.{Float, nan, binary64, toBits, ofBits, fits}
 use lib.Ieee.Bits.{toBits-lt}
 use lib.ListN.{length, getD}
 use Rattle.alpha.specs.Weight as Weight
-use Rattle.altuliscia.specs.Functions.{isOn, asFloat, byteSizes, generalInputs, tuningKnown, generalHost, retiredHost}
+use Rattle.altuliscia.specs.Functions.{generalHost, generalHostBy, retiredHost}
 use Rattle.answer.specs.Lent.{Whole}
 use Rattle.answer.specs.declared.Answer.{Answer}
 use Rattle.answer.specs.declared.Outcome.the-variants.{Accepted}
 use Rattle.boxed.specs.Range.{In}
 use Rattle.extreme.specs.declared.Choice.the-variants.{Pair}
-use Rattle.hosted.specs.Hosted.{floatsOf, room, Handed, handed, delivered, turnedAway, hostedBy, answeredBy}
+use Rattle.hosted.specs.Hosted.{isOn, asFloat, byteSizes, generalInputs, tuningKnown, tuningOf, floatsOf, room, Handed, handed, delivered, turnedAway, hostedBy, answeredBy}
 use Rattle.hosted.proofs.Serves.{Serves, inputs-right, serves}
 use Rattle.promises.specs.Fit.{Fit, weightAfter}
+use Rattle.promises.specs.Numbers.{RetiredNumbered}
 use Rattle.promises.specs.Retired.{retiredFit, silentFit, afterOver, weightOver, pairOver, deltaOver, ownOver}
 use Rattle.finder.proofs.Doubles.{Double}
 use Rattle.promises.proofs.Doubles.{taken-own-double}
-use Rattle.promises.proofs.Numbers.{retired-sized-number}
+use Rattle.promises.proofs.Numbers.{retired-sized-number, some-retired}
 use Rattle.promises.proofs.Retired.{taken-alike, taken-home, taken-reads, taken-travels, taken-pairs, taken-coded}
 use Rattle.promises.proofs.RetiredBox.{taken-box, taken-no-nan, taken-home-box}
 use Rattle.retired.specs.Differ.{Input, DifferRetired}
-use Rattle.retired.specs.Entry.{standsIn, kept, retiredSized}
+use Rattle.retired.specs.Entry.{standsIn, kept, retiredTunedSized}
 use Rattle.retired.proofs.Independent.{Taken, sized-taken, taken-independent}
 use Rattle.retired.proofs.Nobody.{sized-nobody}
 use Rattle.rounding.specs.Units.{NotNan}
 use Rattle.rounding.proofs.Order.{both}
 use Rattle.travel.specs.Travel.{Travelled}
+use Rattle.tuning.specs.declared.Tuning.{Tuning}
 use Rattle.wire.specs.Wire.{digits}
 use Rattle.handed.specs.Gives.{decoded, GivesOver}
+use Rattle.handed.specs.Trains.{RetiredMayAnswer}
 use Rattle.handed.proofs.Handed.{turned-not, Out, delivered-out, room-fits, decoded-double}
 use Rattle.handed.proofs.Numbers.{hosted-code}
 use Rattle.handed.proofs.Stored.{stored-at}
@@ -45,10 +49,10 @@ module _ (n : ℕ) (m l c a p r : List ℕ) (nurule eps shrinking budget : ℕ) 
   x = decoded n m l c a p
 
   abbrev k : Fit
-  k = retiredFit n x r (isOn nurule) (asFloat eps)
+  k = retiredFit (tuningOf t) n x r (isOn nurule) (asFloat eps)
 
   abbrev w : Whole
-  w = retiredSized n m l (floatsOf c n) (floatsOf a n) (floatsOf p n) r (isOn nurule) (asFloat eps) (isOn shrinking) budget room
+  w = retiredTunedSized (tuningOf t) n m l (floatsOf c n) (floatsOf a n) (floatsOf p n) r (isOn nurule) (asFloat eps) (isOn shrinking) budget room
 
   abbrev o : Handed
   o = retiredHost n m l c a p r nurule eps shrinking budget t cr h an
@@ -69,20 +73,20 @@ module _ (n : ℕ) (m l c a p r : List ℕ) (nurule eps shrinking budget : ℕ) 
   pub out : Out n w cr h an o
   out =
       rw (in-time .1) (delivered-out n w cr h an
-      (λ q i e. retired-sized-number n m l (floatsOf c n) (floatsOf a n) (floatsOf p n) r (isOn nurule) (asFloat eps) (isOn shrinking) budget room q i e .0)
+      (λ q i e. some-retired (tuningOf t .floor) q (retired-sized-number (tuningOf t) n m l (floatsOf c n) (floatsOf a n) (floatsOf p n) r (isOn nurule) (asFloat eps) (isOn shrinking) budget room q i e))
       (sym (ap (λ (q : Handed). q .code) (in-time .1)) ∙ z))
 
-  -- the tuning is empty
-  pub retired-called-untuned : length t ≡ 0
-  retired-called-untuned = eqb-true (length t) 0 (both (generalInputs n l c a p && eqb (length r) n) (tuningKnown t) (inputs-right n inputs (length m) (length cr) (length h) (length an) (in-time .0)) .1)
+  -- the tuning's length is known
+  pub retired-called-tuned : tuningKnown t ≡ true
+  retired-called-tuned = both (generalInputs n l c a p && eqb (length r) n) (tuningKnown t) (inputs-right n inputs (length m) (length cr) (length h) (length an) (in-time .0)) .1
 
   -- the training was accepted, and its answer is what is written
   pub retired-called : (z : Answer) × (w .out ≡ Accepted z) × (o .answer ≡ answeredBy (Accepted z) an)
   retired-called = (out .answer, out .accepted, out .told)
 
   -- so all that is promised of one holds
-  pub called-taken : Taken n r (isOn nurule) (asFloat eps) (isOn shrinking) budget room x w
-  called-taken = sized-taken n r (isOn nurule) (asFloat eps) (isOn shrinking) budget room x (room-fits n (length m) (served .room)) (out .answer) (out .accepted)
+  pub called-taken : Taken (tuningOf t) n r (isOn nurule) (asFloat eps) (isOn shrinking) budget room x w
+  called-taken = sized-taken (tuningOf t) n r (isOn nurule) (asFloat eps) (isOn shrinking) budget room x (room-fits n (length m) (served .room)) (out .answer) (out .accepted)
 
   home-at : (s : ℕ) → s < n → digits (o .home) (8 * s) 8 ≡ toBits binary64 (getD (w .left .home) s nan) % 256 ^ 8
   home-at s g = ap (λ (b : List ℕ). digits b (8 * s) 8) (out .home) ∙ stored-at (w .left .home) h n s (served .home) g
@@ -109,7 +113,7 @@ module _ (n : ℕ) (m l c a p r : List ℕ) (nurule eps shrinking budget : ℕ) 
   pub retired-called-pairs : (q i j : ℕ) → pairOver (standsIn r) k m room q ≡ Pair i j → ((i < n) × (standsIn r i ≡ true)) × ((j < n) × (standsIn r j ≡ true))
   retired-called-pairs = taken-pairs called-taken
 
-  pub retired-called-coded : (q i : ℕ) → i < n → weightAfter (silentFit n x r (isOn nurule) (asFloat eps)) m room q i ≡ weightOver (standsIn r) k m room q i
+  pub retired-called-coded : (q i : ℕ) → i < n → weightAfter (silentFit (tuningOf t) n x r (isOn nurule) (asFloat eps)) m room q i ≡ weightOver (standsIn r) k m room q i
   retired-called-coded = taken-coded called-taken
 
   pub retired-called-travels : (q : ℕ) → Travelled n (λ s. getD l s 0) (λ s. getD (kept r (floatsOf p n) n) s nan) (afterOver (standsIn r) k m room q .state)
@@ -129,15 +133,19 @@ module _ (n : ℕ) (m l c a p r : List ℕ) (nurule eps shrinking budget : ℕ) 
     pub retired-called-home-box : (s : ℕ) → s < n → standsIn r s ≡ true → In b (ownOver (standsIn r) k m room budget s)
     retired-called-home-box = taken-home-box called-taken b fit same fit-a
 
--- ---- what it answers, accepted or not: 0 to 10, 12 or 13
+-- ---- what it answers, accepted or not: 0 to 10, 12, 13, or 14 where the floor isn't good
 
 pub retired-called-number : (n : ℕ) (m l c a p r : List ℕ) (nurule eps shrinking budget : ℕ) (t cr h an : List ℕ)
-    → (retiredHost n m l c a p r nurule eps shrinking budget t cr h an .code ≤ 13) × (retiredHost n m l c a p r nurule eps shrinking budget t cr h an .code ≡ 11 → ⊥)
+    → RetiredMayAnswer (tuningOf t .floor) (retiredHost n m l c a p r nurule eps shrinking budget t cr h an .code)
 unfolding retiredHost
 retired-called-number n m l c a p r nurule eps shrinking budget t cr h an =
-    hosted-code (λ q. (q ≤ 13) × (q ≡ 11 → ⊥)) (omega arith, λ z. omega arith) (omega arith, λ z. omega arith) (omega arith, λ z. omega arith) n _ cr h an
-    (λ q i e. let x = retired-sized-number n m l (floatsOf c n) (floatsOf a n) (floatsOf p n) r (isOn nurule) (asFloat eps) (isOn shrinking) budget room q i e in (x .1, x .2))
+    hosted-code (RetiredMayAnswer (tuningOf t .floor)) (inl (omega arith, λ z. omega arith)) (inl (omega arith, λ z. omega arith)) (inl (omega arith, λ z. omega arith)) n _ cr h an
+    (λ q i e. large q (retired-sized-number (tuningOf t) n m l (floatsOf c n) (floatsOf a n) (floatsOf p n) r (isOn nurule) (asFloat eps) (isOn shrinking) budget room q i e))
     (generalInputs n l c a p && eqb (length r) n && tuningKnown t) m
+  where
+    large : (q : ℕ) → RetiredNumbered (tuningOf t .floor) q → RetiredMayAnswer (tuningOf t .floor) q
+    large q (inl x) = inl (x .1, x .2)
+    large q (inr x) = inr x
 
 -- ---- two calls that differ in what is lent for who is retired: where both answer 0, they write the same bytes
 
@@ -152,7 +160,11 @@ retired-called-independent n m l c a p m' l' c' a' p' r nurule eps shrinking bud
     (taken-independent D (called-taken n m l c a p r nurule eps shrinking budget t cr h an z) (called-taken n m' l' c' a' p' r nurule eps shrinking budget t cr h an z'))
     ∙ sym (in-time n m' l' c' a' p' r nurule eps shrinking budget t cr h an z' .1)
 
--- ---- nobody retired, no tuning, shrinking off
+-- ---- nobody retired, shrinking off
+
+pub and-true : (b : Bool) → (b && true) ≡ b
+and-true true = refl
+and-true false = refl
 
 hosted-same : (number : ℕ) (w v : Handed) (cr h an : List ℕ) → (number ≡ 0 → w ≡ v) → hostedBy number w cr h an ≡ hostedBy number v cr h an
 unfolding hostedBy
@@ -162,17 +174,20 @@ hosted-same number w v cr h an same = go (eqb number 0) refl
     go true e = same (eqb-true number 0 e)
     go false e = refl
 
-pub retired-called-nobody : (n : ℕ) (m l c a p r : List ℕ) (nurule eps budget : ℕ) (t cr h an : List ℕ) → length r ≡ n → ((i : ℕ) → i < n → getD r i 0 ≡ 0) → length t ≡ 0
-    → retiredHost n m l c a p r nurule eps 0 budget t cr h an ≡ generalHost n m l c a p nurule eps 0 budget cr h an
-unfolding retiredHost generalHost
-retired-called-nobody n m l c a p r nurule eps budget t cr h an long all none =
+pub retired-called-nobody : (n : ℕ) (m l c a p r : List ℕ) (nurule eps budget : ℕ) (t cr h an : List ℕ) → length r ≡ n → ((i : ℕ) → i < n → getD r i 0 ≡ 0) → tuningKnown t ≡ true
+    → retiredHost n m l c a p r nurule eps 0 budget t cr h an ≡ generalHostBy (tuningOf t) n m l c a p nurule eps 0 budget cr h an
+unfolding retiredHost generalHostBy
+retired-called-nobody n m l c a p r nurule eps budget t cr h an long all known =
     let given = generalInputs n l c a p in
-    let same : (given && eqb (length r) n && tuningKnown t) ≡ given = rw (eq-eqb (length r) n long, eq-eqb (length t) 0 none) (and-true (given && true) ∙ and-true given) in
+    let same : (given && eqb (length r) n && tuningKnown t) ≡ given = rw (eq-eqb (length r) n long, known) (and-true (given && true) ∙ and-true given) in
     rw same (hosted-same (byteSizes n given m cr h an) _ _ cr h an
     (λ e. ap (λ (q : Whole). delivered n q cr h an)
-    (sized-nobody n r long all m l (floatsOf c n) (floatsOf a n) (floatsOf p n) (isOn nurule) (asFloat eps) budget room
+    (sized-nobody (tuningOf t) n r long all m l (floatsOf c n) (floatsOf a n) (floatsOf p n) (isOn nurule) (asFloat eps) budget room
     (room-fits n (length m) (serves n given (length m) (length cr) (length h) (length an) e .room)))))
-  where
-    and-true : (b : Bool) → (b && true) ≡ b
-    and-true true = refl
-    and-true false = refl
+
+-- an empty tuning is none
+pub retired-called-untuned : (n : ℕ) (m l c a p r : List ℕ) (nurule eps budget : ℕ) (t cr h an : List ℕ) → length r ≡ n → ((i : ℕ) → i < n → getD r i 0 ≡ 0) → length t ≡ 0
+    → retiredHost n m l c a p r nurule eps 0 budget t cr h an ≡ generalHost n m l c a p nurule eps 0 budget cr h an
+retired-called-untuned n m l c a p r nurule eps budget t cr h an long all none =
+    let e = retired-called-nobody n m l c a p r nurule eps budget t cr h an long all (rw none) in
+    e ∙ ap (λ (q : Tuning). generalHostBy q n m l c a p nurule eps 0 budget cr h an) (rw none)

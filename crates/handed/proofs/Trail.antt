@@ -6,12 +6,13 @@ use mathlib.Core.List.{List}
 use mathlib.Core.Path.{_≡_, refl, sym, ap, _∙_}
 use lib.Ieee.{Float, binary64, toBits}
 use Rattle.alpha.specs.Weight.{floor}
-use Rattle.altuliscia.specs.Functions.{isOn, generalHost, cHost, nuHost, oneClassHost}
+use Rattle.altuliscia.specs.Functions.{generalHost, cHost, nuHost, oneClassHost}
 use Rattle.answer.specs.Lent.{Whole}
-use Rattle.hosted.specs.Hosted.{room, Handed}
+use Rattle.hosted.specs.Hosted.{isOn, room, Handed}
 use Rattle.promises.specs.Fit.{Fit}
 use Rattle.promises.proofs.Home.{served-home}
 use Rattle.promises.proofs.Trail.{run-begins, steps-begin, served-begins, served-weights, served-shown}
+use Rattle.tuning.specs.Tuning.{plainTuning}
 use Rattle.handed.specs.Gives.{Gives}
 use Rattle.handed.specs.Trail.{TrailedBytes}
 use Rattle.handed.specs.Trains.{generalTrains, cTrains, nuTrains, oneClassTrains}
@@ -31,21 +32,21 @@ trailed {k = k} {m = m} {budget = budget} r v off plain = record {
 }
 
 pub general-called-trail : (n : ℕ) (m l c a p : List ℕ) (nurule eps shrinking budget : ℕ) (cr h an : List ℕ) → generalHost n m l c a p nurule eps shrinking budget cr h an .code ≡ 0
-    → isOn shrinking ≡ false → TrailedBytes (generalTrains n l c a p nurule eps shrinking) m budget (generalHost n m l c a p nurule eps shrinking budget cr h an)
+    → isOn shrinking ≡ false → TrailedBytes (generalTrains plainTuning n l c a p nurule eps shrinking) m budget (generalHost n m l c a p nurule eps shrinking budget cr h an)
 general-called-trail n m l c a p nurule eps shrinking budget cr h an z off =
-    trailed (general-ran n m l c a p nurule eps shrinking budget cr h an z .2) (general-gives n m l c a p nurule eps shrinking budget cr h an z) off refl
+    trailed (general-ran plainTuning n m l c a p nurule eps shrinking budget cr h an z .2) (general-gives plainTuning n m l c a p nurule eps shrinking budget cr h an z) off refl
 
 pub c-called-trail : (n : ℕ) (m l : List ℕ) (cpos cneg eps shrinking budget : ℕ) (cr h an : List ℕ) → cHost n m l cpos cneg eps shrinking budget cr h an .code ≡ 0
-    → isOn shrinking ≡ false → TrailedBytes (cTrains n l cpos cneg eps shrinking) m budget (cHost n m l cpos cneg eps shrinking budget cr h an)
+    → isOn shrinking ≡ false → TrailedBytes (cTrains plainTuning n l cpos cneg eps shrinking) m budget (cHost n m l cpos cneg eps shrinking budget cr h an)
 c-called-trail n m l cpos cneg eps shrinking budget cr h an z off =
-    trailed (c-ran n m l cpos cneg eps shrinking budget cr h an z .2) (c-gives n m l cpos cneg eps shrinking budget cr h an z) off refl
+    trailed (c-ran plainTuning n m l cpos cneg eps shrinking budget cr h an z .2) (c-gives plainTuning n m l cpos cneg eps shrinking budget cr h an z) off refl
 
 pub nu-called-trail : (n : ℕ) (m l : List ℕ) (nu eps shrinking budget : ℕ) (cr h an : List ℕ) → nuHost n m l nu eps shrinking budget cr h an .code ≡ 0
-    → isOn shrinking ≡ false → TrailedBytes (nuTrains n l nu eps shrinking) m budget (nuHost n m l nu eps shrinking budget cr h an)
+    → isOn shrinking ≡ false → TrailedBytes (nuTrains plainTuning n l nu eps shrinking) m budget (nuHost n m l nu eps shrinking budget cr h an)
 nu-called-trail n m l nu eps shrinking budget cr h an z off =
-    trailed (nu-ran n m l nu eps shrinking budget cr h an z .2) (nu-gives n m l nu eps shrinking budget cr h an z) off refl
+    trailed (nu-ran plainTuning n m l nu eps shrinking budget cr h an z .2) (nu-gives plainTuning n m l nu eps shrinking budget cr h an z) off refl
 
 pub one-class-called-trail : (n : ℕ) (m : List ℕ) (nu eps shrinking budget : ℕ) (cr h an : List ℕ) → oneClassHost n m nu eps shrinking budget cr h an .code ≡ 0
-    → isOn shrinking ≡ false → TrailedBytes (oneClassTrains n nu eps shrinking) m budget (oneClassHost n m nu eps shrinking budget cr h an)
+    → isOn shrinking ≡ false → TrailedBytes (oneClassTrains plainTuning n nu eps shrinking) m budget (oneClassHost n m nu eps shrinking budget cr h an)
 one-class-called-trail n m nu eps shrinking budget cr h an z off =
-    trailed (one-class-ran n m nu eps shrinking budget cr h an z .2) (one-class-gives n m nu eps shrinking budget cr h an z) off refl
+    trailed (one-class-ran plainTuning n m nu eps shrinking budget cr h an z .2) (one-class-gives plainTuning n m nu eps shrinking budget cr h an z) off refl

@@ -6,10 +6,10 @@ use mathlib.Core.Path.{_≡_}
 use lib.Ieee.{Float, nan, binary64, toBits}
 use lib.ListN.{getD}
 use Rattle.alpha.specs.Weight.{weight}
-use Rattle.altuliscia.specs.Functions.{isOn, asFloat, PairHanded}
+use Rattle.altuliscia.specs.Functions.{PairHanded}
 use Rattle.answer.specs.Answer.{coefficientOf}
 use Rattle.finder.specs.Found.{foundPair, foundStep}
-use Rattle.hosted.specs.Hosted.{room, Handed}
+use Rattle.hosted.specs.Hosted.{isOn, asFloat, room, Handed}
 use Rattle.promises.specs.Fit.{Fit, after, weightAfter, stepsTaken, rOf}
 use Rattle.promises.specs.Leaves.{Beyond}
 use Rattle.promises.specs.Trail.{laterSteps, labelLent, noStep, ShownStep}

@@ -11,7 +11,7 @@ use lib.Ieee.{Float}
 use Rattle.answer.specs.Lent.{lent}
 use Rattle.judge.specs.Sizes.{Room}
 use Rattle.judge.proofs.Lengths.{inputs-of, room-of, long-enough}
-use Rattle.hosted.specs.Hosted.{decodedTo, floatsOf, eights, hostSizes, freshPlaces, freshFloats, freshNumbers, freshBytes, room}
+use Rattle.hosted.specs.Hosted.{decodedTo, padded, floatsOf, eights, hostSizes, Handed, handed, widened, freshPlaces, freshFloats, freshNumbers, freshBytes, room}
 use Rattle.rounding.proofs.Order.{both}
 
 pub record Serves (n m cr h an : ℕ) : Type 0 where
@@ -41,6 +41,15 @@ module _ (n : ℕ) (inputs : Bool) (m cr h an : ℕ) (e : hostSizes n inputs m c
         home = under n h (r .home);
         answer = leb-true 72 an (both-told .1);
       }
+
+-- with an answer of 128 bytes
+pub wide-right : (n : ℕ) (inputs known : Bool) (m cr h an : ℕ) → hostSizes n (inputs && known && leb 128 an) m cr h an ≡ 0 → (inputs ≡ true) × (128 ≤ an)
+wide-right n inputs known m cr h an e =
+    let p = both (inputs && known) (leb 128 an) (inputs-right n (inputs && known && leb 128 an) m cr h an e) in
+    (both inputs known (p .0) .0, leb-true 128 an (p .1))
+
+pub widened-by : (k : ℕ) (cr h an out : List ℕ) (w : Handed) → handed k cr h an ≡ w → out ≡ padded an → handed k cr h out ≡ widened w
+widened-by k cr h an out w e q = rw (q, ← e)
 
 floats-long : (n k : ℕ) → eights n k ≡ true → 8 * n ≤ k
 floats-long n k h =

@@ -1,9 +1,9 @@
 -- Lists and answers as the host's bytes (the rule, section 'What a caller lends and gets').
-use Prim.Native.Nat.{ℕ, zero, suc, _*_, _/_, _%_}
-use mathlib.Core.Bool.{Bool, _&&_, cond}
+use Prim.Native.Nat.{ℕ, zero, suc, _+_, _*_, _/_, _%_}
+use mathlib.Core.Bool.{Bool, not, _&&_, cond}
 use mathlib.Core.List.{List}
 use lib.Dec.{eqb, leb}
-use lib.Ieee.{Float, nan}
+use lib.Ieee.{Float, nan, binary64, ofBits}
 use lib.ListN.{length, getD, set, replicate}
 use Rattle.alpha.specs.Weight as Weight
 use Rattle.answer.specs.Answer.{wordsOf}
@@ -11,6 +11,8 @@ use Rattle.answer.specs.Lent.{Lent, lent, Whole}
 use Rattle.answer.specs.declared.Outcome.{Outcome}
 use Rattle.answer.specs.declared.Outcome.the-variants.{Accepted, Refused}
 use Rattle.judge.specs.Sizes.{sizes}
+use Rattle.tuning.specs.Tuning.{tuned}
+use Rattle.tuning.specs.declared.Tuning.{Tuning}
 use Rattle.wire.specs.Wire.{floatAt, withDigits, withFloat}
 
 -- d with the first floats of the bytes b
@@ -32,6 +34,30 @@ wordsTo w out (suc k) = withDigits (wordsTo w out k) (8 * k) (getD w k 0) 8
 abbrev pub answeredBy : Outcome → List ℕ → List ℕ
 answeredBy o out = wordsTo (wordsOf o) out 9
 
+-- .. and of the tuned functions' 128: the seven words behind it are 0
+unfoldable pub zeroedTo : List ℕ → ℕ → List ℕ
+zeroedTo out zero = out
+zeroedTo out (suc k) = withDigits (zeroedTo out k) (72 + 8 * k) 0 8
+
+abbrev pub padded : List ℕ → List ℕ
+padded out = zeroedTo out 7
+
+-- a flag is on when it isn't 0
+abbrev pub isOn : ℕ → Bool
+isOn flag = not (eqb flag 0)
+
+-- a single float travels as a number that holds its eight bytes
+abbrev pub asFloat : ℕ → Float
+asFloat w = ofBits binary64 w
+
+-- a tuning has whole words, and no more than are known: one, the floor
+abbrev pub tuningKnown : List ℕ → Bool
+tuningKnown t = eqb (length t % 8) 0 && leb (length t / 8) 1
+
+-- a word that isn't there is its default
+abbrev pub tuningOf : List ℕ → Tuning
+tuningOf t = tuned (cond (leb 8 (length t)) (floatAt t 0) Weight.floor)
+
 -- k bytes are n floats
 abbrev pub eights : ℕ → ℕ → Bool
 eights n k = eqb (k / 8) n && eqb (k % 8) 0
@@ -39,6 +65,12 @@ eights n k = eqb (k / 8) n && eqb (k % 8) 0
 -- refusals 1 and 2: result lists in bytes, an answer of 72 bytes at least, and the working room that the call brings
 unfoldable pub hostSizes : ℕ → Bool → ℕ → ℕ → ℕ → ℕ → ℕ
 hostSizes n inputs m cr h an = sizes n (inputs && leb 72 an) m (cr / 8) (h / 8) 3584 1024 512
+
+abbrev pub byteSizes : ℕ → Bool → List ℕ → List ℕ → List ℕ → List ℕ → ℕ
+byteSizes n inputs m cr h an = hostSizes n inputs (length m) (length cr) (length h) (length an)
+
+abbrev pub generalInputs : ℕ → List ℕ → List ℕ → List ℕ → List ℕ → Bool
+generalInputs n l c a p = eqb (length l) n && eights n (length c) && eights n (length a) && eights n (length p)
 
 -- that room: lists of zeros for 512 samples
 unfoldable pub freshPlaces : List Float
@@ -84,3 +116,13 @@ turnedAway number an = cond (leb 72 (length an)) (answeredBy (Refused number 0) 
 
 unfoldable pub hostedBy : ℕ → Handed → List ℕ → List ℕ → List ℕ → Handed
 hostedBy number w cr h an = cond (eqb number 0) w (handed number cr h (turnedAway number an))
+
+-- .. with an answer of 128 bytes
+abbrev pub widened : Handed → Handed
+widened w = handed (w .code) (w .crate) (w .home) (padded (w .answer))
+
+unfoldable pub turnedWide : ℕ → List ℕ → List ℕ
+turnedWide number an = cond (leb 128 (length an)) (padded (answeredBy (Refused number 0) an)) an
+
+unfoldable pub hostedWide : ℕ → Handed → List ℕ → List ℕ → List ℕ → Handed
+hostedWide number w cr h an = cond (eqb number 0) (widened w) (handed number cr h (turnedWide number an))

@@ -4,10 +4,11 @@ ghost use mathlib.Core.Bool.{Bool};
 ghost use Prim.Native.Nat.{ℕ, _+_, _*_, _≤_, _<_};
 ghost use lib.ListN.{length};
 ghost use Rattle.answer.specs.Answer.{ratioThere, ratioBits, reasonNumber, wordsOf};
-ghost use Rattle.hosted.specs.Hosted.{decodedTo, storedTo, wordsTo, answeredBy, eights, hostSizes, Handed, handed, deliveredBy, turnedAway, freshPlaces, freshFloats, freshNumbers, freshBytes};
+ghost use Rattle.hosted.specs.Hosted.{decodedTo, storedTo, wordsTo, answeredBy, eights, zeroedTo, padded, tuningKnown, tuningOf, hostSizes, Handed, handed, deliveredBy, turnedAway, turnedWide, freshPlaces, freshFloats, freshNumbers, freshBytes};
 use answer::ExitReason;
 use answer::Outcome;
 use answer::Ratio;
+use tuning::Tuning;
 
 pub fn decode(d: &mut [f64], b: &[u8], n: usize)
     requires { ⌜ (n ≤ 512) × (n ≤ length (now d)) × (8 * n ≤ length (now b)) ⌝ }
@@ -91,6 +92,35 @@ fn put_answer(out: &mut [u8], o: Outcome)
     put_words(out, words_of(o));
 }
 
+// The words behind the answer's nine, where it has 128 bytes.
+pub fn pad(out: &mut [u8])
+    requires { ⌜ 128 ≤ length (now out) ⌝ }
+    ensures { λ _. ⌜ now (out .exit) ≡ padded (now (out .entry)) ⌝ }
+{
+    for k in 0..7 {
+        wire::put_word(out, 72 + 8 * k, 0);
+    }
+}
+
+// Whether this build knows all words of a tuning.
+pub fn is_tuning(t: &[u8]) -> bool
+    ensures { λ r. ⌜ r ≡ tuningKnown (now (t .entry)) ⌝ }
+{
+    (t.len() % 8 == 0) & (t.len() / 8 <= 1)
+}
+
+// A word that isn't there is its default.
+pub fn tuning_of(t: &[u8]) -> Tuning
+    ensures { λ r. ⌜ r ≡ tuningOf (now (t .entry)) ⌝ }
+{
+    if 8 <= t.len() {
+        return Tuning {
+            floor: wire::float_at(t, 0),
+        };
+    }
+    tuning::plain()
+}
+
 // Whether k bytes are n floats.
 pub fn are_floats(n: usize, k: usize) -> bool
     ensures { λ r. ⌜ r ≡ eights n k ⌝ }
@@ -120,6 +150,16 @@ pub fn turn_away(answer: &mut [u8], number: u64)
 {
     if 72 <= answer.len() {
         put_answer(answer, Outcome::Refused(number, 0));
+    }
+}
+
+// The same, of an answer of 128 bytes.
+pub fn turn_away_wide(answer: &mut [u8], number: u64)
+    ensures { λ _. ⌜ now (answer .exit) ≡ turnedWide number (now (answer .entry)) ⌝ }
+{
+    if 128 <= answer.len() {
+        put_answer(answer, Outcome::Refused(number, 0));
+        pad(answer);
     }
 }
 

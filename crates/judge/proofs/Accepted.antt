@@ -15,8 +15,9 @@ use Rattle.alpha.specs.Weight.{zero, limit, one}
 use Rattle.kernel.specs.Matrix.{Matrix}
 use Rattle.rounding.proofs.Order.{holds, le-real, both}
 use Rattle.wire.specs.Wire.{digits, floatAt}
-use Rattle.judge.specs.declared.Judged.the-variants.{Fine}
-use Rattle.judge.specs.Judge.{first, need, andThen, isCeiling, entryGood, labelGood, ceilingGood, costGood, alphaGood, linearGood, epsGood, nuGood, budgetGood, bytesGood, samplesJudged, generalJudged, cJudged, nuJudged, oneClassJudged}
+use Rattle.judge.specs.declared.Judged.{Judged}
+use Rattle.judge.specs.declared.Judged.the-variants.{Fine, Bad}
+use Rattle.judge.specs.Judge.{first, need, andThen, isCeiling, entryGood, labelGood, ceilingGood, costGood, alphaGood, linearGood, epsGood, nuGood, budgetGood, floorGood, bytesGood, floorJudged, samplesJudged, generalJudged, cJudged, nuJudged, oneClassJudged}
 use Rattle.judge.proofs.First.{first-fine, need-fine, and-then-fine}
 
 -- ---- what a good place says
@@ -46,6 +47,10 @@ alpha-within a c k h = two (le zero (getD a k nan)) (le (getD a k nan) (getD c k
 pub nu-within : (nu : Float) → nuGood nu ≡ true → T (lt zero nu) × T (le nu one)
 unfolding nuGood
 nu-within nu h = two (lt zero nu) (le nu one) h
+
+pub floor-within : (x : Float) → floorGood x ≡ true → T (lt zero x) × T (le x one)
+unfolding floorGood
+floor-within x h = two (lt zero x) (le x one) h
 
 pub budget-within : (budget : ℕ) → budgetGood budget ≡ true → (0 < budget) × (budget ≤ 10000000)
 unfolding budgetGood
@@ -77,6 +82,15 @@ pub matrix-fine : (n : ℕ) (m : List ℕ) → n ≤ 512 → 8 * (n * n) ≤ len
 matrix-fine n m a b h = record { small = a; long = b; number = λ k l. entry-number m k (first-fine 3 (entryGood m) (n * n) 0 h k (omega arith) (omega arith)) }
 
 -- ---- the lists and numbers of each entry
+
+-- 14: all before it, and the floor
+pub floor-fine : (x : Float) (j : Judged) → floorJudged x j ≡ Fine → (j ≡ Fine) × (floorGood x ≡ true)
+floor-fine x j h = let p = and-then-fine j (need 14 (floorGood x)) h in (p .0, need-fine 14 (floorGood x) (p .1))
+
+pub floor-passed : (x : Float) (j : Judged) → floorGood x ≡ true → floorJudged x j ≡ j
+unfolding andThen
+floor-passed x Fine h = rw h
+floor-passed x (Bad q i) h = refl
 
 pub record GeneralFine (n : ℕ) (m l : List ℕ) (c a p : List Float) (eps : Float) (budget : ℕ) : Type 0 where
   pub matrix : first 3 (entryGood m) (n * n) 0 ≡ Fine

@@ -7,9 +7,12 @@ use lib.Ieee.{Float, binary64, ofBits, neg, lt, le}
 use Rattle.alpha.specs.Weight.{limit, zero, one}
 use Rattle.judge.specs.declared.Judged.the-variants.{Fine, Bad}
 use Rattle.judge.specs.Sizes.{sizes}
-use Rattle.judge.specs.Judge.{first, need, andThen, inLimit, isCeiling, isStart, labelGood, linearGood, costGood, epsGood, nuGood, budgetGood, bytesGood, generalJudged, retiredJudged}
+use Rattle.judge.specs.Judge.{first, need, andThen, inLimit, isCeiling, isStart, labelGood, linearGood, costGood, epsGood, nuGood, budgetGood, floorGood, bytesGood, floorJudged, generalJudged, retiredJudged}
 
--- the floats next above 2^1000 and 1, −0, +∞, and a NaN
+-- the least float above 0, those next above 2^1000 and 1, −0, +∞, and a NaN
+abbrev least : Float
+least = ofBits binary64 1
+
 abbrev over : Float
 over = ofBits binary64 0x7e70_0000_0000_0001
 
@@ -80,21 +83,40 @@ pub budgets : (budgetGood 0 ≡ false) × (budgetGood 1 ≡ true) × (budgetGood
 unfolding budgetGood andThen
 budgets = (refl, refl, refl, refl, refl, refl)
 
+-- 14: 5e-324 and 1 are the ends
+pub floors : (floorGood least ≡ true) × (floorGood one ≡ true) × (floorGood overOne ≡ false) × (floorGood zero ≡ false) × (floorGood minusZero ≡ false) × (floorGood (neg one) ≡ false)
+    × (floorGood infinity ≡ false) × (floorGood noNumber ≡ false)
+unfolding floorGood ofBits neg lt le
+floors = (refl, refl, refl, refl, refl, refl, refl, refl)
+
 -- 12: of the first n bytes
 pub retireds : (bytesGood (0 ∷ 1 ∷ []) 2 ≡ true) × (bytesGood (0 ∷ 2 ∷ []) 2 ≡ false) × (bytesGood (0 ∷ 2 ∷ []) 1 ≡ true)
 unfolding bytesGood
 retireds = (refl, refl, refl)
 
--- the order: what is judged before them, 12, 13
-module _ (n : ℕ) (m l : List ℕ) (c a p : List Float) (r : List ℕ) (eps : Float) (budget : ℕ) where
-  pub ten-before-twelve : (q i : ℕ) (shrinking : Bool) → generalJudged n m l c a p eps budget ≡ Bad q i → retiredJudged n m l c a p r eps shrinking budget ≡ Bad q i
-  unfolding retiredJudged andThen
-  ten-before-twelve q i shrinking h = rw h
+-- the order: what is judged before it, 14; in every entry
+pub fourteen-last : (x : Float) (q i : ℕ) → floorJudged x (Bad q i) ≡ Bad q i
+unfolding andThen
+fourteen-last x q i = refl
 
-  pub twelve-before-thirteen : (shrinking : Bool) → generalJudged n m l c a p eps budget ≡ Fine → bytesGood r n ≡ false → retiredJudged n m l c a p r eps shrinking budget ≡ Bad 12 0
+pub fourteen-then : (x : Float) → floorGood x ≡ false → floorJudged x Fine ≡ Bad 14 0
+unfolding andThen
+fourteen-then x h = rw h
+
+-- .. then 12, 13
+module _ (x : Float) (n : ℕ) (m l : List ℕ) (c a p : List Float) (r : List ℕ) (eps : Float) (budget : ℕ) where
+  pub ten-before-fourteen : (q i : ℕ) (shrinking : Bool) → generalJudged n m l c a p eps budget ≡ Bad q i → retiredJudged x n m l c a p r eps shrinking budget ≡ Bad q i
+  unfolding retiredJudged andThen
+  ten-before-fourteen q i shrinking h = rw h
+
+  pub fourteen-before-twelve : (shrinking : Bool) → generalJudged n m l c a p eps budget ≡ Fine → floorGood x ≡ false → retiredJudged x n m l c a p r eps shrinking budget ≡ Bad 14 0
+  unfolding retiredJudged andThen
+  fourteen-before-twelve shrinking h g = rw (h, g)
+
+  pub twelve-before-thirteen : (shrinking : Bool) → floorJudged x (generalJudged n m l c a p eps budget) ≡ Fine → bytesGood r n ≡ false → retiredJudged x n m l c a p r eps shrinking budget ≡ Bad 12 0
   unfolding retiredJudged andThen
   twelve-before-thirteen shrinking h g = rw (h, g)
 
-  pub thirteen-last : generalJudged n m l c a p eps budget ≡ Fine → bytesGood r n ≡ true → retiredJudged n m l c a p r eps true budget ≡ Bad 13 0
+  pub thirteen-last : floorJudged x (generalJudged n m l c a p eps budget) ≡ Fine → bytesGood r n ≡ true → retiredJudged x n m l c a p r eps true budget ≡ Bad 13 0
   unfolding retiredJudged andThen
   thirteen-last h g = rw (h, g)

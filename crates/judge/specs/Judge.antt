@@ -1,4 +1,4 @@
--- Refusals 3 to 10, 12 and 13: what an input must be, and which number and index is given where it isn't (the rule, section 'What a caller lends and gets').
+-- Refusals 3 to 10 and 12 to 14: what an input must be, and which number and index is given where it isn't (the rule, section 'What a caller lends and gets').
 use Prim.Native.Nat.{ℕ, zero, suc, _*_}
 use mathlib.Core.Bool.{Bool, true, false, not, _&&_, cond}
 use mathlib.Core.List.{List}
@@ -23,7 +23,7 @@ first k good (suc m) i = cond (good i) (first k good m (suc i)) (Bad k i)
 abbrev pub need : ℕ → Bool → Judged
 need k good = cond good Fine (Bad k 0)
 
--- b counts only where nothing was wrong before it: the lowest number is given
+-- b counts only where nothing was wrong before it: the first number is given
 unfoldable pub andThen : Judged → Judged → Judged
 andThen Fine b = b
 andThen (Bad k i) b = Bad k i
@@ -80,12 +80,20 @@ nuGood nu = lt nought nu && le nu one
 unfoldable pub budgetGood : ℕ → Bool
 budgetGood budget = ltb 0 budget && leb budget 10000000
 
+-- 14: what may stand for a curvature that isn't above 0
+unfoldable pub floorGood : Float → Bool
+floorGood x = lt nought x && le x one
+
 -- 12: the first bytes are 0 or 1
 unfoldable pub bytesGood : List ℕ → ℕ → Bool
 bytesGood r zero = true
 bytesGood r (suc k) = bytesGood r k && leb (getD r k 0) 1
 
 -- ---- the entries
+
+-- 14, behind all that an entry without a tuning judges: j is its verdict
+abbrev pub floorJudged : Float → Judged → Judged
+floorJudged x j = andThen j (need 14 (floorGood x))
 
 -- 3 and 4
 abbrev pub samplesJudged : ℕ → List ℕ → List ℕ → Judged
@@ -99,10 +107,10 @@ generalJudged n m l c a p eps budget =
     let j7 = andThen j6 (first 7 (linearGood p) n 0) in
     andThen (andThen j7 (need 8 (epsGood eps))) (need 10 (budgetGood budget))
 
--- .. 12 and 13: r are the retired bytes
-unfoldable pub retiredJudged : ℕ → List ℕ → List ℕ → List Float → List Float → List Float → List ℕ → Float → Bool → ℕ → Judged
-retiredJudged n m l c a p r eps shrinking budget =
-    andThen (andThen (generalJudged n m l c a p eps budget) (need 12 (bytesGood r n))) (need 13 (not shrinking))
+-- .. 14, 12 and 13: x is the floor, r are the retired bytes
+unfoldable pub retiredJudged : Float → ℕ → List ℕ → List ℕ → List Float → List Float → List Float → List ℕ → Float → Bool → ℕ → Judged
+retiredJudged x n m l c a p r eps shrinking budget =
+    andThen (andThen (floorJudged x (generalJudged n m l c a p eps budget)) (need 12 (bytesGood r n))) (need 13 (not shrinking))
 
 -- 3, 4, 5, 8 and 10
 unfoldable pub cJudged : ℕ → List ℕ → List ℕ → Float → Float → Float → ℕ → Judged

@@ -1,10 +1,10 @@
-// Refusals 1 and 2, 4 to 10, 12 and 13, each by itself: what is lent and given is judged before anything is written.
+// Refusals 1 and 2, 4 to 10 and 12 to 14, each by itself: what is lent and given is judged before anything is written.
 ghost use mathlib.Core.Bool.{not};
 ghost use mathlib.Core.Path.{_≡_};
 ghost use Prim.Native.Nat.{ℕ, _*_, _≤_};
 ghost use lib.ListN.{length};
 ghost use Rattle.judge.specs.Sizes.{roomGood, sizes};
-ghost use Rattle.judge.specs.Judge.{first, need, andThen, isBad, isCeiling, labelGood, ceilingGood, costGood, alphaGood, linearGood, epsGood, nuGood, budgetGood, bytesGood};
+ghost use Rattle.judge.specs.Judge.{first, need, andThen, isBad, isCeiling, labelGood, ceilingGood, costGood, alphaGood, linearGood, epsGood, nuGood, budgetGood, floorJudged, bytesGood};
 use alpha::Alpha;
 
 // Fine, or a refusal's number and the offending index.
@@ -188,6 +188,19 @@ pub fn budget_judged(j: Judged, budget: u64) -> Judged
         return Judged::Fine;
     }
     Judged::Bad(10, 0)
+}
+
+// Refusal 14.
+pub fn floor_judged(j: Judged, x: f64) -> Judged
+    ensures { λ r. ⌜ r ≡ floorJudged x j ⌝ }
+{
+    if is_bad(j) {
+        return j;
+    }
+    if (0.0 < x) & (x <= 1.0) {
+        return Judged::Fine;
+    }
+    Judged::Bad(14, 0)
 }
 
 fn bytes_good(r: &[u8], n: usize) -> bool

@@ -11,7 +11,7 @@ use Rattle.answer.specs.Lent.{Lent, Whole}
 use Rattle.answer.specs.Solved as Solved
 use Rattle.answer.specs.declared.Answer.{Answer}
 use Rattle.answer.specs.declared.Outcome.the-variants.{Accepted}
-use Rattle.classification.specs.Entries.{generalOf, fitCOf, fitNuOf, fitOneClassOf}
+use Rattle.classification.specs.Entries.{generalTuned, fitCTuned, fitNuTuned, fitOneClassTuned}
 use Rattle.fits.proofs.Loaded.{length-numbers, sample-loaded}
 use Rattle.readings.specs.Order.{crateReading, homeReading, weightIn, Perm}
 use Rattle.readings.proofs.Order.{length-gathered, crate-at, home-at}
@@ -21,6 +21,7 @@ use Rattle.promises.specs.Fit.{Fit, startFrom, runOf, rOf}
 use Rattle.promises.proofs.Entries.{general-served, c-served, nu-served, one-class-served}
 use Rattle.promises.proofs.Home.{finished-at, served-lists, served-at}
 use Rattle.classification.proofs.Still.{trained-still}
+use Rattle.tuning.specs.declared.Tuning.{Tuning}
 use Rattle.promises.proofs.Travel.{Served}
 
 module _ {k : Fit} {m : List ℕ} {budget : ℕ} {d : Lent} {o : Whole} (v : Served k m budget d o) (x : Answer) (e : o .out ≡ Accepted x) (off : k .given .shrinking ≡ false) where
@@ -70,19 +71,19 @@ module _ {k : Fit} {m : List ℕ} {budget : ℕ} {d : Lent} {o : Whole} (v : Ser
       ∙ sym (home-own s h))
       ∙ sym (served-at v x e s h)
 
-module _ (n : ℕ) (m l : List ℕ) (c a p : List Float) (nurule : Bool) (eps : Float) (budget : ℕ) (d : Lent) (x : Answer) (e : generalOf n m l c a p nurule eps false budget d .out ≡ Accepted x) where
+module _ (tune : Tuning) (n : ℕ) (m l : List ℕ) (c a p : List Float) (nurule : Bool) (eps : Float) (budget : ℕ) (d : Lent) (x : Answer) (e : generalTuned tune n m l c a p nurule eps false budget d .out ≡ Accepted x) where
   pub general-alike : (s : ℕ) → s < n
-      → getD (generalOf n m l c a p nurule eps false budget d .left .crate) s nan ≡ getD (generalOf n m l c a p nurule eps false budget d .left .home) s nan
-  general-alike = served-alike (general-served n m l c a p nurule eps false budget d x e) x e refl
+      → getD (generalTuned tune n m l c a p nurule eps false budget d .left .crate) s nan ≡ getD (generalTuned tune n m l c a p nurule eps false budget d .left .home) s nan
+  general-alike = served-alike (general-served tune n m l c a p nurule eps false budget d x e) x e refl
 
-module _ (n : ℕ) (m l : List ℕ) (cpos cneg eps : Float) (budget : ℕ) (d : Lent) (x : Answer) (e : fitCOf n m l cpos cneg eps false budget d .out ≡ Accepted x) where
-  pub c-alike : (s : ℕ) → s < n → getD (fitCOf n m l cpos cneg eps false budget d .left .crate) s nan ≡ getD (fitCOf n m l cpos cneg eps false budget d .left .home) s nan
-  c-alike = served-alike (c-served n m l cpos cneg eps false budget d x e) x e refl
+module _ (tune : Tuning) (n : ℕ) (m l : List ℕ) (cpos cneg eps : Float) (budget : ℕ) (d : Lent) (x : Answer) (e : fitCTuned tune n m l cpos cneg eps false budget d .out ≡ Accepted x) where
+  pub c-alike : (s : ℕ) → s < n → getD (fitCTuned tune n m l cpos cneg eps false budget d .left .crate) s nan ≡ getD (fitCTuned tune n m l cpos cneg eps false budget d .left .home) s nan
+  c-alike = served-alike (c-served tune n m l cpos cneg eps false budget d x e) x e refl
 
-module _ (n : ℕ) (m l : List ℕ) (nu eps : Float) (budget : ℕ) (d : Lent) (x : Answer) (e : fitNuOf n m l nu eps false budget d .out ≡ Accepted x) where
-  pub nu-alike : (s : ℕ) → s < n → getD (fitNuOf n m l nu eps false budget d .left .crate) s nan ≡ getD (fitNuOf n m l nu eps false budget d .left .home) s nan
-  nu-alike = served-alike (nu-served n m l nu eps false budget d x e) x e refl
+module _ (tune : Tuning) (n : ℕ) (m l : List ℕ) (nu eps : Float) (budget : ℕ) (d : Lent) (x : Answer) (e : fitNuTuned tune n m l nu eps false budget d .out ≡ Accepted x) where
+  pub nu-alike : (s : ℕ) → s < n → getD (fitNuTuned tune n m l nu eps false budget d .left .crate) s nan ≡ getD (fitNuTuned tune n m l nu eps false budget d .left .home) s nan
+  nu-alike = served-alike (nu-served tune n m l nu eps false budget d x e) x e refl
 
-module _ (n : ℕ) (m : List ℕ) (nu eps : Float) (budget : ℕ) (d : Lent) (x : Answer) (e : fitOneClassOf n m nu eps false budget d .out ≡ Accepted x) where
-  pub one-class-alike : (s : ℕ) → s < n → getD (fitOneClassOf n m nu eps false budget d .left .crate) s nan ≡ getD (fitOneClassOf n m nu eps false budget d .left .home) s nan
-  one-class-alike = served-alike (one-class-served n m nu eps false budget d x e) x e refl
+module _ (tune : Tuning) (n : ℕ) (m : List ℕ) (nu eps : Float) (budget : ℕ) (d : Lent) (x : Answer) (e : fitOneClassTuned tune n m nu eps false budget d .out ≡ Accepted x) where
+  pub one-class-alike : (s : ℕ) → s < n → getD (fitOneClassTuned tune n m nu eps false budget d .left .crate) s nan ≡ getD (fitOneClassTuned tune n m nu eps false budget d .left .home) s nan
+  one-class-alike = served-alike (one-class-served tune n m nu eps false budget d x e) x e refl

@@ -1,14 +1,16 @@
 -- The box, of an entry: with one common ceiling b every weight lies in 0..b after each pass of its run, and no step is NaN. Assumes nothing.
 use Prim.Native.Nat.{ℕ, zero, _*_, _≤_, _<_}
-use mathlib.Core.Bool.{true}
+use mathlib.Core.Bool.{true, false}
 use mathlib.Core.List.{List}
 use mathlib.Core.Path.{_≡_, sym, _∙_}
 use native.Mathlib.Omega.{arith}
 use lib.Dec.{T}
-use lib.Ieee.{Float, nan, binary64, fits, le}
+use lib.Ieee.{Float, nan, inf, fin, binary64, ofBits, fits, lt, le}
+use lib.Ieee.Scale.{finite}
 use lib.Ieee.Bits.{ofBits-fits}
 use lib.ListN.{getD}
 use Rattle.alpha.specs.Weight as Weight
+use Rattle.alpha.specs.Weight.{one}
 use Rattle.answer.specs.Lent.{Lent, Whole}
 use Rattle.boxed.specs.Delta.{deltaAt}
 use Rattle.boxed.specs.Range.{Ceiling, In, Entry, Divides}
@@ -17,9 +19,9 @@ use Rattle.boxrun.specs.Boxed.{OneCeiling}
 use Rattle.boxrun.proofs.Run.{box-weights, box-trained, no-nan-chosen, no-nan-runs}
 use Rattle.extreme.specs.declared.Choice.the-variants.{Pair}
 use Rattle.fits.proofs.Loaded.{weight-loaded, ceiling-loaded, label-loaded}
-use Rattle.judge.specs.Judge.{first, isCeiling, entryGood, labelGood}
+use Rattle.judge.specs.Judge.{first, isCeiling, entryGood, labelGood, floorGood}
 use Rattle.judge.specs.declared.Judged.the-variants.{Fine}
-use Rattle.judge.proofs.Accepted.{entry-within, label-within, cost-within}
+use Rattle.judge.proofs.Accepted.{entry-within, label-within, cost-within, floor-within}
 use Rattle.judge.proofs.First.{first-fine}
 use Rattle.rounding.specs.Units.{NotNan}
 use Rattle.rounding.proofs.Order.{lt-real, lt→le, le-real}
@@ -45,6 +47,16 @@ entries-in n m h k b =
 
 pub labels-in : (n : ℕ) (l : List ℕ) → first 4 (labelGood l) n 0 ≡ Fine → (k : ℕ) → k < n → getD l k 0 ≤ 1
 labels-in n l h k b = label-within l k (first-fine 4 (labelGood l) n 0 h k (omega arith) (omega arith))
+
+-- refusal 14 leaves a floor that divides
+pub floor-in : (x : Float) → floorGood x ≡ true → Divides x
+floor-in x h = let w = floor-within x h in record { finite = under x (w .0) (w .1); above = w .0 }
+  where
+    under : (x : Float) → T (lt Weight.zero x) → T (le x one) → T (finite x)
+    under nan a b = unfold ofBits lt in a
+    under (inf true) a b = unfold ofBits lt in a
+    under (inf false) a b = unfold ofBits le in b
+    under (fin s m e) a b = tt
 
 -- every f64 fits its format
 pub ceiling-in : (b : Float) → T (fits binary64 b) → isCeiling b ≡ true → Ceiling b

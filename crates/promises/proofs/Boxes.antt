@@ -15,27 +15,27 @@ use Rattle.answer.specs.Lent.{Lent}
 use Rattle.answer.specs.declared.Answer.{Answer}
 use Rattle.answer.specs.declared.Outcome.the-variants.{Accepted}
 use Rattle.boxed.specs.Range.{Ceiling, In}
-use Rattle.boxed.proofs.Step.{floor-divides}
-use Rattle.classification.specs.Entries.{generalOf, fitCOf, fitNuOf, fitOneClassOf}
+use Rattle.classification.specs.Entries.{generalTuned, fitCTuned, fitNuTuned, fitOneClassTuned}
 use Rattle.extreme.specs.declared.Choice.the-variants.{Pair}
 use Rattle.fits.specs.Starts.{nothing, half, sharedTo, oneClassTo}
 use Rattle.fits.proofs.Starts.{nothing-at, evenly-at, positive-at, cost-at}
-use Rattle.judge.specs.Judge.{isCeiling, ceilingGood, alphaGood, generalJudged}
+use Rattle.judge.specs.Judge.{isCeiling, ceilingGood, alphaGood, floorGood, generalJudged}
 use Rattle.judge.specs.declared.Judged.the-variants.{Fine}
 use Rattle.judge.proofs.Accepted.{general-fine, c-fine, nu-fine, one-class-fine, alpha-within, nu-within}
 use Rattle.judge.proofs.First.{first-fine}
 use Rattle.rounding.specs.Units.{NotNan}
 use Rattle.rounding.proofs.Order.{le-refl}
 use Rattle.travel.specs.Home.{lastLeft}
+use Rattle.tuning.specs.declared.Tuning.{Tuning}
 use Rattle.promises.specs.Fit.{generalFit, cFit, nuFit, oneClassFit, weightAfter, pairAfter, deltaAfter, stepsTaken}
-use Rattle.promises.proofs.Box.{Common, entries-in, labels-in, ceiling-in, weight-in, served-box, served-no-nan, served-home-box}
-use Rattle.promises.proofs.Entries.{general-judged, general-served, c-judged, c-served, nu-judged, nu-served, one-class-judged, one-class-served}
+use Rattle.promises.proofs.Box.{Common, floor-in, entries-in, labels-in, ceiling-in, weight-in, served-box, served-no-nan, served-home-box}
+use Rattle.promises.proofs.Entries.{general-judged, general-floored, general-served, c-judged, c-floored, c-served, nu-judged, nu-floored, nu-served, one-class-judged, one-class-floored, one-class-served}
 use Rattle.promises.proofs.Starts.{ceiling-one, nu-start, one-class-start}
 
 -- ---- general: every lent ceiling is b
 
-module _ (n : ℕ) (m l : List ℕ) (c a p : List Float) (nurule : Bool) (eps : Float) (shrinking : Bool) (budget : ℕ) (some : 1 ≤ n)
-    (judged : generalJudged n m l c a p eps budget ≡ Fine) (b : Float) (fit : T (fits binary64 b)) (same : (i : ℕ) → i < n → getD c i nan ≡ b)
+module _ (tune : Tuning) (n : ℕ) (m l : List ℕ) (c a p : List Float) (nurule : Bool) (eps : Float) (shrinking : Bool) (budget : ℕ) (some : 1 ≤ n)
+    (judged : generalJudged n m l c a p eps budget ≡ Fine) (good : floorGood (tune .floor) ≡ true) (b : Float) (fit : T (fits binary64 b)) (same : (i : ℕ) → i < n → getD c i nan ≡ b)
     (fit-a : (i : ℕ) → i < n → T (fits binary64 (getD a i nan))) where
   judged-b : isCeiling b ≡ true
   unfolding ceilingGood
@@ -43,7 +43,7 @@ module _ (n : ℕ) (m l : List ℕ) (c a p : List Float) (nurule : Bool) (eps : 
       let f = general-fine n m l c a p eps budget judged in
       rw (same 0 some) at (first-fine 5 (ceilingGood c) n 0 (f .ceilings) 0 (omega arith) (omega (arith, some)))
 
-  pub general-common : Common (generalFit n l c a p nurule eps shrinking) m b
+  pub general-common : Common (generalFit tune n l c a p nurule eps shrinking) m b
   general-common =
       let f = general-fine n m l c a p eps budget judged in
       record {
@@ -54,27 +54,27 @@ module _ (n : ℕ) (m l : List ℕ) (c a p : List Float) (nurule : Bool) (eps : 
             weight-in b (getD a i nan) (fit-a i h) (w .0) (rw (same i h) at (w .1));
         entries = entries-in n m (f .matrix);
         labels = labels-in n l (f .labels);
-        floor = floor-divides;
+        floor = floor-in (tune .floor) good;
       }
 
-module _ (n : ℕ) (m l : List ℕ) (c a p : List Float) (nurule : Bool) (eps : Float) (shrinking : Bool) (budget : ℕ) (d : Lent) (x : Answer)
-    (e : generalOf n m l c a p nurule eps shrinking budget d .out ≡ Accepted x) (b : Float) (fit : T (fits binary64 b)) (same : (i : ℕ) → i < n → getD c i nan ≡ b)
+module _ (tune : Tuning) (n : ℕ) (m l : List ℕ) (c a p : List Float) (nurule : Bool) (eps : Float) (shrinking : Bool) (budget : ℕ) (d : Lent) (x : Answer)
+    (e : generalTuned tune n m l c a p nurule eps shrinking budget d .out ≡ Accepted x) (b : Float) (fit : T (fits binary64 b)) (same : (i : ℕ) → i < n → getD c i nan ≡ b)
     (fit-a : (i : ℕ) → i < n → T (fits binary64 (getD a i nan))) where
-  one-b : Common (generalFit n l c a p nurule eps shrinking) m b
+  one-b : Common (generalFit tune n l c a p nurule eps shrinking) m b
   one-b =
-      general-common n m l c a p nurule eps shrinking budget (general-served n m l c a p nurule eps shrinking budget d x e .room .some)
-      (general-judged n m l c a p nurule eps shrinking budget d x e) b fit same fit-a
+      general-common tune n m l c a p nurule eps shrinking budget (general-served tune n m l c a p nurule eps shrinking budget d x e .room .some)
+      (general-judged tune n m l c a p nurule eps shrinking budget d x e) (general-floored tune n m l c a p nurule eps shrinking budget d x e) b fit same fit-a
 
-  pub general-box : (t i : ℕ) → i < n → In b (weightAfter (generalFit n l c a p nurule eps shrinking) m d t i)
-  general-box = served-box (general-served n m l c a p nurule eps shrinking budget d x e) one-b
+  pub general-box : (t i : ℕ) → i < n → In b (weightAfter (generalFit tune n l c a p nurule eps shrinking) m d t i)
+  general-box = served-box (general-served tune n m l c a p nurule eps shrinking budget d x e) one-b
 
-  pub general-no-nan : (t i j : ℕ) → pairAfter (generalFit n l c a p nurule eps shrinking) m d t ≡ Pair i j
-      → NotNan (deltaAfter (generalFit n l c a p nurule eps shrinking) m d t i j)
-  general-no-nan = served-no-nan (general-served n m l c a p nurule eps shrinking budget d x e) one-b
+  pub general-no-nan : (t i j : ℕ) → pairAfter (generalFit tune n l c a p nurule eps shrinking) m d t ≡ Pair i j
+      → NotNan (deltaAfter (generalFit tune n l c a p nurule eps shrinking) m d t i j)
+  general-no-nan = served-no-nan (general-served tune n m l c a p nurule eps shrinking budget d x e) one-b
 
   -- the weight behind what home answers for sample s
-  pub general-home-box : (s : ℕ) → s < n → In b (lastLeft (stepsTaken (generalFit n l c a p nurule eps shrinking) m d budget) s (getD a s nan))
-  general-home-box = served-home-box (general-served n m l c a p nurule eps shrinking budget d x e) one-b
+  pub general-home-box : (s : ℕ) → s < n → In b (lastLeft (stepsTaken (generalFit tune n l c a p nurule eps shrinking) m d budget) s (getD a s nan))
+  general-home-box = served-home-box (general-served tune n m l c a p nurule eps shrinking budget d x e) one-b
 
 -- ---- C: one cost for both labels
 
@@ -86,12 +86,12 @@ pub nought-in : (b : Float) → Ceiling b → In b Weight.zero
 unfolding ofBits isNan
 nought-in b h = weight-in b Weight.zero (ofBits-fits binary64 0) (le-refl Weight.zero tt) (h .low)
 
-module _ (n : ℕ) (m l : List ℕ) (cost eps : Float) (shrinking : Bool) (budget : ℕ) (d : Lent) (x : Answer) (e : fitCOf n m l cost cost eps shrinking budget d .out ≡ Accepted x)
+module _ (tune : Tuning) (n : ℕ) (m l : List ℕ) (cost eps : Float) (shrinking : Bool) (budget : ℕ) (d : Lent) (x : Answer) (e : fitCTuned tune n m l cost cost eps shrinking budget d .out ≡ Accepted x)
     (fit : T (fits binary64 cost)) where
-  c-common : Common (cFit n l cost cost eps shrinking) m cost
+  c-common : Common (cFit tune n l cost cost eps shrinking) m cost
   c-common =
-      let f = c-fine n m l cost cost eps budget (c-judged n m l cost cost eps shrinking budget d x e) in
-      let most = c-served n m l cost cost eps shrinking budget d x e .room .most in
+      let f = c-fine n m l cost cost eps budget (c-judged tune n m l cost cost eps shrinking budget d x e) in
+      let most = c-served tune n m l cost cost eps shrinking budget d x e .room .most in
       let top = ceiling-in cost fit (f .cpos-good) in
       record {
         ceiling = top;
@@ -99,27 +99,27 @@ module _ (n : ℕ) (m l : List ℕ) (cost eps : Float) (shrinking : Bool) (budge
         weights = λ i h. rw (nothing-at n i most h) (nought-in cost top);
         entries = entries-in n m (f .matrix);
         labels = labels-in n l (f .labels);
-        floor = floor-divides;
+        floor = floor-in (tune .floor) (c-floored tune n m l cost cost eps shrinking budget d x e);
       }
 
-  pub c-box : (t i : ℕ) → i < n → In cost (weightAfter (cFit n l cost cost eps shrinking) m d t i)
-  c-box = served-box (c-served n m l cost cost eps shrinking budget d x e) c-common
+  pub c-box : (t i : ℕ) → i < n → In cost (weightAfter (cFit tune n l cost cost eps shrinking) m d t i)
+  c-box = served-box (c-served tune n m l cost cost eps shrinking budget d x e) c-common
 
-  pub c-no-nan : (t i j : ℕ) → pairAfter (cFit n l cost cost eps shrinking) m d t ≡ Pair i j → NotNan (deltaAfter (cFit n l cost cost eps shrinking) m d t i j)
-  c-no-nan = served-no-nan (c-served n m l cost cost eps shrinking budget d x e) c-common
+  pub c-no-nan : (t i j : ℕ) → pairAfter (cFit tune n l cost cost eps shrinking) m d t ≡ Pair i j → NotNan (deltaAfter (cFit tune n l cost cost eps shrinking) m d t i j)
+  c-no-nan = served-no-nan (c-served tune n m l cost cost eps shrinking budget d x e) c-common
 
   -- the weight behind what home answers for sample s
-  pub c-home-box : (s : ℕ) → s < n → In cost (lastLeft (stepsTaken (cFit n l cost cost eps shrinking) m d budget) s (getD nothing s nan))
-  c-home-box = served-home-box (c-served n m l cost cost eps shrinking budget d x e) c-common
+  pub c-home-box : (s : ℕ) → s < n → In cost (lastLeft (stepsTaken (cFit tune n l cost cost eps shrinking) m d budget) s (getD nothing s nan))
+  c-home-box = served-home-box (c-served tune n m l cost cost eps shrinking budget d x e) c-common
 
 -- ---- nu and one-class: every ceiling is 1
 
-module _ (n : ℕ) (m l : List ℕ) (nu eps : Float) (shrinking : Bool) (budget : ℕ) (d : Lent) (x : Answer) (e : fitNuOf n m l nu eps shrinking budget d .out ≡ Accepted x)
+module _ (tune : Tuning) (n : ℕ) (m l : List ℕ) (nu eps : Float) (shrinking : Bool) (budget : ℕ) (d : Lent) (x : Answer) (e : fitNuTuned tune n m l nu eps shrinking budget d .out ≡ Accepted x)
     (fit : T (fits binary64 nu)) where
-  nu-common : Common (nuFit n l nu eps shrinking) m one
+  nu-common : Common (nuFit tune n l nu eps shrinking) m one
   nu-common =
-      let f = nu-fine n m l nu eps budget (nu-judged n m l nu eps shrinking budget d x e) in
-      let r = nu-served n m l nu eps shrinking budget d x e .room in
+      let f = nu-fine n m l nu eps budget (nu-judged tune n m l nu eps shrinking budget d x e) in
+      let r = nu-served tune n m l nu eps shrinking budget d x e .room in
       let w = nu-within nu (f .nu-good) in
       record {
         ceiling = ceiling-one;
@@ -127,25 +127,25 @@ module _ (n : ℕ) (m l : List ℕ) (nu eps : Float) (shrinking : Bool) (budget 
         weights = nu-start nu fit (w .0) (w .1) n (r .some) (r .most) l;
         entries = entries-in n m (f .matrix);
         labels = labels-in n l (f .labels);
-        floor = floor-divides;
+        floor = floor-in (tune .floor) (nu-floored tune n m l nu eps shrinking budget d x e);
       }
 
-  pub nu-box : (t i : ℕ) → i < n → In one (weightAfter (nuFit n l nu eps shrinking) m d t i)
-  nu-box = served-box (nu-served n m l nu eps shrinking budget d x e) nu-common
+  pub nu-box : (t i : ℕ) → i < n → In one (weightAfter (nuFit tune n l nu eps shrinking) m d t i)
+  nu-box = served-box (nu-served tune n m l nu eps shrinking budget d x e) nu-common
 
-  pub nu-no-nan : (t i j : ℕ) → pairAfter (nuFit n l nu eps shrinking) m d t ≡ Pair i j → NotNan (deltaAfter (nuFit n l nu eps shrinking) m d t i j)
-  nu-no-nan = served-no-nan (nu-served n m l nu eps shrinking budget d x e) nu-common
+  pub nu-no-nan : (t i j : ℕ) → pairAfter (nuFit tune n l nu eps shrinking) m d t ≡ Pair i j → NotNan (deltaAfter (nuFit tune n l nu eps shrinking) m d t i j)
+  nu-no-nan = served-no-nan (nu-served tune n m l nu eps shrinking budget d x e) nu-common
 
   -- the weight behind what home answers for sample s
-  pub nu-home-box : (s : ℕ) → s < n → In one (lastLeft (stepsTaken (nuFit n l nu eps shrinking) m d budget) s (getD (sharedTo (half nu n) l nothing n) s nan))
-  nu-home-box = served-home-box (nu-served n m l nu eps shrinking budget d x e) nu-common
+  pub nu-home-box : (s : ℕ) → s < n → In one (lastLeft (stepsTaken (nuFit tune n l nu eps shrinking) m d budget) s (getD (sharedTo (half nu n) l nothing n) s nan))
+  nu-home-box = served-home-box (nu-served tune n m l nu eps shrinking budget d x e) nu-common
 
-module _ (n : ℕ) (m : List ℕ) (nu eps : Float) (shrinking : Bool) (budget : ℕ) (d : Lent) (x : Answer) (e : fitOneClassOf n m nu eps shrinking budget d .out ≡ Accepted x)
+module _ (tune : Tuning) (n : ℕ) (m : List ℕ) (nu eps : Float) (shrinking : Bool) (budget : ℕ) (d : Lent) (x : Answer) (e : fitOneClassTuned tune n m nu eps shrinking budget d .out ≡ Accepted x)
     (fit : T (fits binary64 nu)) where
-  one-class-common : Common (oneClassFit n nu eps shrinking) m one
+  one-class-common : Common (oneClassFit tune n nu eps shrinking) m one
   one-class-common =
-      let f = one-class-fine n m nu eps budget (one-class-judged n m nu eps shrinking budget d x e) in
-      let r = one-class-served n m nu eps shrinking budget d x e .room in
+      let f = one-class-fine n m nu eps budget (one-class-judged tune n m nu eps shrinking budget d x e) in
+      let r = one-class-served tune n m nu eps shrinking budget d x e .room in
       let w = nu-within nu (f .nu-good) in
       record {
         ceiling = ceiling-one;
@@ -153,15 +153,15 @@ module _ (n : ℕ) (m : List ℕ) (nu eps : Float) (shrinking : Bool) (budget : 
         weights = one-class-start nu fit (w .0) (w .1) n (r .some) (r .most);
         entries = entries-in n m (f .matrix);
         labels = λ i h. rw (positive-at n i (r .most) h) (omega arith);
-        floor = floor-divides;
+        floor = floor-in (tune .floor) (one-class-floored tune n m nu eps shrinking budget d x e);
       }
 
-  pub one-class-box : (t i : ℕ) → i < n → In one (weightAfter (oneClassFit n nu eps shrinking) m d t i)
-  one-class-box = served-box (one-class-served n m nu eps shrinking budget d x e) one-class-common
+  pub one-class-box : (t i : ℕ) → i < n → In one (weightAfter (oneClassFit tune n nu eps shrinking) m d t i)
+  one-class-box = served-box (one-class-served tune n m nu eps shrinking budget d x e) one-class-common
 
-  pub one-class-no-nan : (t i j : ℕ) → pairAfter (oneClassFit n nu eps shrinking) m d t ≡ Pair i j → NotNan (deltaAfter (oneClassFit n nu eps shrinking) m d t i j)
-  one-class-no-nan = served-no-nan (one-class-served n m nu eps shrinking budget d x e) one-class-common
+  pub one-class-no-nan : (t i j : ℕ) → pairAfter (oneClassFit tune n nu eps shrinking) m d t ≡ Pair i j → NotNan (deltaAfter (oneClassFit tune n nu eps shrinking) m d t i j)
+  one-class-no-nan = served-no-nan (one-class-served tune n m nu eps shrinking budget d x e) one-class-common
 
   -- the weight behind what home answers for sample s
-  pub one-class-home-box : (s : ℕ) → s < n → In one (lastLeft (stepsTaken (oneClassFit n nu eps shrinking) m d budget) s (getD (oneClassTo nu n nothing n) s nan))
-  one-class-home-box = served-home-box (one-class-served n m nu eps shrinking budget d x e) one-class-common
+  pub one-class-home-box : (s : ℕ) → s < n → In one (lastLeft (stepsTaken (oneClassFit tune n nu eps shrinking) m d budget) s (getD (oneClassTo nu n nothing n) s nan))
+  one-class-home-box = served-home-box (one-class-served tune n m nu eps shrinking budget d x e) one-class-common

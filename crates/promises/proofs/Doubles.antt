@@ -43,6 +43,7 @@ use Rattle.travel.proofs.Travel.{travelled-trained}
 use Rattle.update.specs.Pair.{pair, pairOf}
 use Rattle.update.specs.Update.{pairAt, updatedState}
 use Rattle.update.proofs.Left.{length-updated, alpha-i, alpha-j, alpha-other}
+use Rattle.tuning.specs.declared.Tuning.{Tuning}
 use Rattle.promises.specs.Fit.{Fit, startFrom, rOf, ownWeight, weightAfter}
 use Rattle.promises.specs.Retired.{retiredFit, silentFit, ownOver}
 use Rattle.promises.proofs.Home.{served-home, served-at}
@@ -138,16 +139,16 @@ module _ {k : Fit} {m : List ℕ} {budget : ℕ} {d : Lent} {o : Whole} (v : Ser
 
 -- ---- a training with retired samples: the code's run has the same weights
 
-module _ {n : ℕ} {r : List ℕ} {nurule : Bool} {eps : Float} {shrinking : Bool} {budget : ℕ} {d : Lent} {x : Input} {o : Whole} (v : Taken n r nurule eps shrinking budget d x o)
+module _ {tune : Tuning} {n : ℕ} {r : List ℕ} {nurule : Bool} {eps : Float} {shrinking : Bool} {budget : ℕ} {d : Lent} {x : Input} {o : Whole} (v : Taken tune n r nurule eps shrinking budget d x o)
     (ceilings : (i : ℕ) → i < n → Double (getD (x .ceilings) i nan)) (weights : (i : ℕ) → i < n → Double (getD (x .weights) i nan)) where
   kept-doubled : (i : ℕ) → i < n → Double (getD (kept r (x .weights) n) i nan)
   kept-doubled i h = rw (kept-place r n (v .room .most) (x .weights) i h) (cond-fits binary64 (standsIn r i) (getD (x .weights) i nan) Weight.zero (weights i h) (ofBits-fits binary64 0))
 
   abbrev k : Fit
-  k = silentFit n x r nurule eps
+  k = silentFit tune n x r nurule eps
 
   silent : Served k (x .matrix) budget d (fitted (k .given) (k .how) (x .matrix) (k .labels) (k .ceilings) (k .weights) (k .terms) budget d)
   silent = record { square = refl; room = v .room; usable = taken-usable v; same = refl }
 
-  pub taken-own-double : (s : ℕ) → s < n → Double (ownOver (standsIn r) (retiredFit n x r nurule eps) (x .matrix) d budget s)
+  pub taken-own-double : (s : ℕ) → s < n → Double (ownOver (standsIn r) (retiredFit tune n x r nurule eps) (x .matrix) d budget s)
   taken-own-double s h = rw (sym (taken-left v budget s h), sym (taken-coded v budget s h)) (served-doubles silent ceilings kept-doubled budget s h)

@@ -10,15 +10,17 @@ use Rattle.alpha.specs.Weight.{minusOne}
 use Rattle.answer.specs.Lent.{Lent, Whole}
 use Rattle.answer.specs.declared.Answer.{Answer}
 use Rattle.answer.specs.declared.Outcome.the-variants.{Accepted}
-use Rattle.classification.specs.Entries.{sizesOf, fitted, generalSized, generalOf, fitCSized, fitCOf, fitNuSized, fitNuOf, fitOneClassSized, fitOneClassOf}
+use Rattle.classification.specs.Entries.{sizesOf, fitted, generalTunedSized, generalTuned, fitCTunedSized, fitCTuned, fitNuTunedSized, fitNuTuned, fitOneClassTunedSized, fitOneClassTuned}
 use Rattle.classification.proofs.Laws.{usable-general, usable-c, usable-nu, usable-one-class}
 use Rattle.fits.specs.Starts.{nothing, evenly, allPositive}
-use Rattle.judge.specs.Judge.{generalJudged, cJudged, nuJudged, oneClassJudged}
+use Rattle.judge.specs.Judge.{generalJudged, cJudged, nuJudged, oneClassJudged, floorGood, floorJudged}
 use Rattle.judge.specs.declared.Judged.the-variants.{Fine}
+use Rattle.judge.proofs.Accepted.{floor-fine}
 use Rattle.judge.proofs.Lengths.{room-of}
 use Rattle.travel.specs.Travel.{Travelled}
 use Rattle.promises.specs.Fit.{Fit, generalFit, cFit, nuFit, oneClassFit, after, ownWeight}
 use Rattle.classification.proofs.Accepts.{entered-in, decided-in}
+use Rattle.tuning.specs.declared.Tuning.{Tuning}
 use Rattle.promises.proofs.Home.{served-home}
 use Rattle.promises.proofs.Travel.{Served, served-travels}
 
@@ -31,124 +33,136 @@ out-of x w v e h = rw e at h
 
 -- ---- general
 
-module _ (n : ℕ) (m l : List ℕ) (c a p : List Float) (nurule : Bool) (eps : Float) (shrinking : Bool) (budget : ℕ) (d : Lent) (x : Answer) (e : generalOf n m l c a p nurule eps shrinking budget d .out ≡ Accepted x) where
+module _ (tune : Tuning) (n : ℕ) (m l : List ℕ) (c a p : List Float) (nurule : Bool) (eps : Float) (shrinking : Bool) (budget : ℕ) (d : Lent) (x : Answer) (e : generalTuned tune n m l c a p nurule eps shrinking budget d .out ≡ Accepted x) where
   abbrev generalK : Fit
-  generalK = generalFit n l c a p nurule eps shrinking
+  generalK = generalFit tune n l c a p nurule eps shrinking
 
-  general-entered : (sizesOf n (eqb (length l) n && eqb (length c) n && eqb (length a) n && eqb (length p) n) m d ≡ 0) × (generalOf n m l c a p nurule eps shrinking budget d ≡ generalSized n m l c a p nurule eps shrinking budget d)
-  unfolding generalOf
-  general-entered = entered-in (generalSized n m l c a p nurule eps shrinking budget d) d x (sizesOf n (eqb (length l) n && eqb (length c) n && eqb (length a) n && eqb (length p) n) m d) e
+  general-entered : (sizesOf n (eqb (length l) n && eqb (length c) n && eqb (length a) n && eqb (length p) n) m d ≡ 0) × (generalTuned tune n m l c a p nurule eps shrinking budget d ≡ generalTunedSized tune n m l c a p nurule eps shrinking budget d)
+  unfolding generalTuned
+  general-entered = entered-in (generalTunedSized tune n m l c a p nurule eps shrinking budget d) d x (sizesOf n (eqb (length l) n && eqb (length c) n && eqb (length a) n && eqb (length p) n) m d) e
 
-  general-decided : (generalJudged n m l c a p eps budget ≡ Fine) × (generalSized n m l c a p nurule eps shrinking budget d ≡ fittedTo generalK m budget d)
-  unfolding generalSized
-  general-decided = decided-in (fittedTo generalK m budget d) d x (generalJudged n m l c a p eps budget) (out-of x _ _ (general-entered .1) e)
+  general-decided : (floorJudged (tune .floor) (generalJudged n m l c a p eps budget) ≡ Fine) × (generalTunedSized tune n m l c a p nurule eps shrinking budget d ≡ fittedTo generalK m budget d)
+  unfolding generalTunedSized
+  general-decided = decided-in (fittedTo generalK m budget d) d x (floorJudged (tune .floor) (generalJudged n m l c a p eps budget)) (out-of x _ _ (general-entered .1) e)
 
-  -- no refusal from 3 to 10
+  -- no refusal from 3 to 10, and not 14
   pub general-judged : generalJudged n m l c a p eps budget ≡ Fine
-  general-judged = general-decided .0
+  general-judged = floor-fine (tune .floor) (generalJudged n m l c a p eps budget) (general-decided .0) .0
 
-  pub general-served : Served (generalFit n l c a p nurule eps shrinking) m budget d (generalOf n m l c a p nurule eps shrinking budget d)
+  pub general-floored : floorGood (tune .floor) ≡ true
+  general-floored = floor-fine (tune .floor) (generalJudged n m l c a p eps budget) (general-decided .0) .1
+
+  pub general-served : Served (generalFit tune n l c a p nurule eps shrinking) m budget d (generalTuned tune n m l c a p nurule eps shrinking budget d)
   general-served =
       let r = room-of n (eqb (length l) n && eqb (length c) n && eqb (length a) n && eqb (length p) n) (length m) (length (d .crate)) (length (d .home)) (length (d .floats)) (length (d .numbers)) (length (d .bytes)) (general-entered .0) in
       record { square = refl; room = r; usable = usable-general n m budget (r .most) (r .matrix) l c a p eps general-judged; same = general-entered .1 ∙ general-decided .1 }
 
   -- what home answers for sample s
-  pub general-home : (s : ℕ) → s < n → getD (generalOf n m l c a p nurule eps shrinking budget d .left .home) s nan ≡ ownWeight (generalFit n l c a p nurule eps shrinking) m d budget s
+  pub general-home : (s : ℕ) → s < n → getD (generalTuned tune n m l c a p nurule eps shrinking budget d .left .home) s nan ≡ ownWeight (generalFit tune n l c a p nurule eps shrinking) m d budget s
   general-home = served-home general-served x e
 
   -- after each number of passes
-  pub general-travels : (t : ℕ) → Travelled n (λ s. getD l s 0) (λ s. getD p s nan) (after (generalFit n l c a p nurule eps shrinking) m d t .state)
+  pub general-travels : (t : ℕ) → Travelled n (λ s. getD l s 0) (λ s. getD p s nan) (after (generalFit tune n l c a p nurule eps shrinking) m d t .state)
   general-travels = served-travels general-served
 
 -- ---- C
 
-module _ (n : ℕ) (m l : List ℕ) (cpos cneg eps : Float) (shrinking : Bool) (budget : ℕ) (d : Lent) (x : Answer) (e : fitCOf n m l cpos cneg eps shrinking budget d .out ≡ Accepted x) where
+module _ (tune : Tuning) (n : ℕ) (m l : List ℕ) (cpos cneg eps : Float) (shrinking : Bool) (budget : ℕ) (d : Lent) (x : Answer) (e : fitCTuned tune n m l cpos cneg eps shrinking budget d .out ≡ Accepted x) where
   abbrev cK : Fit
-  cK = cFit n l cpos cneg eps shrinking
+  cK = cFit tune n l cpos cneg eps shrinking
 
-  c-entered : (sizesOf n (eqb (length l) n) m d ≡ 0) × (fitCOf n m l cpos cneg eps shrinking budget d ≡ fitCSized n m l cpos cneg eps shrinking budget d)
-  unfolding fitCOf
-  c-entered = entered-in (fitCSized n m l cpos cneg eps shrinking budget d) d x (sizesOf n (eqb (length l) n) m d) e
+  c-entered : (sizesOf n (eqb (length l) n) m d ≡ 0) × (fitCTuned tune n m l cpos cneg eps shrinking budget d ≡ fitCTunedSized tune n m l cpos cneg eps shrinking budget d)
+  unfolding fitCTuned
+  c-entered = entered-in (fitCTunedSized tune n m l cpos cneg eps shrinking budget d) d x (sizesOf n (eqb (length l) n) m d) e
 
-  c-decided : (cJudged n m l cpos cneg eps budget ≡ Fine) × (fitCSized n m l cpos cneg eps shrinking budget d ≡ fittedTo cK m budget d)
-  unfolding fitCSized
-  c-decided = decided-in (fittedTo cK m budget d) d x (cJudged n m l cpos cneg eps budget) (out-of x _ _ (c-entered .1) e)
+  c-decided : (floorJudged (tune .floor) (cJudged n m l cpos cneg eps budget) ≡ Fine) × (fitCTunedSized tune n m l cpos cneg eps shrinking budget d ≡ fittedTo cK m budget d)
+  unfolding fitCTunedSized
+  c-decided = decided-in (fittedTo cK m budget d) d x (floorJudged (tune .floor) (cJudged n m l cpos cneg eps budget)) (out-of x _ _ (c-entered .1) e)
 
-  -- no refusal from 3 to 10
+  -- no refusal from 3 to 10, and not 14
   pub c-judged : cJudged n m l cpos cneg eps budget ≡ Fine
-  c-judged = c-decided .0
+  c-judged = floor-fine (tune .floor) (cJudged n m l cpos cneg eps budget) (c-decided .0) .0
 
-  pub c-served : Served (cFit n l cpos cneg eps shrinking) m budget d (fitCOf n m l cpos cneg eps shrinking budget d)
+  pub c-floored : floorGood (tune .floor) ≡ true
+  c-floored = floor-fine (tune .floor) (cJudged n m l cpos cneg eps budget) (c-decided .0) .1
+
+  pub c-served : Served (cFit tune n l cpos cneg eps shrinking) m budget d (fitCTuned tune n m l cpos cneg eps shrinking budget d)
   c-served =
       let r = room-of n (eqb (length l) n) (length m) (length (d .crate)) (length (d .home)) (length (d .floats)) (length (d .numbers)) (length (d .bytes)) (c-entered .0) in
       record { square = refl; room = r; usable = usable-c n m budget (r .most) (r .matrix) l cpos cneg eps c-judged; same = c-entered .1 ∙ c-decided .1 }
 
   -- what home answers for sample s
-  pub c-home : (s : ℕ) → s < n → getD (fitCOf n m l cpos cneg eps shrinking budget d .left .home) s nan ≡ ownWeight (cFit n l cpos cneg eps shrinking) m d budget s
+  pub c-home : (s : ℕ) → s < n → getD (fitCTuned tune n m l cpos cneg eps shrinking budget d .left .home) s nan ≡ ownWeight (cFit tune n l cpos cneg eps shrinking) m d budget s
   c-home = served-home c-served x e
 
   -- after each number of passes
-  pub c-travels : (t : ℕ) → Travelled n (λ s. getD l s 0) (λ s. getD (evenly minusOne n) s nan) (after (cFit n l cpos cneg eps shrinking) m d t .state)
+  pub c-travels : (t : ℕ) → Travelled n (λ s. getD l s 0) (λ s. getD (evenly minusOne n) s nan) (after (cFit tune n l cpos cneg eps shrinking) m d t .state)
   c-travels = served-travels c-served
 
 -- ---- nu
 
-module _ (n : ℕ) (m l : List ℕ) (nu eps : Float) (shrinking : Bool) (budget : ℕ) (d : Lent) (x : Answer) (e : fitNuOf n m l nu eps shrinking budget d .out ≡ Accepted x) where
+module _ (tune : Tuning) (n : ℕ) (m l : List ℕ) (nu eps : Float) (shrinking : Bool) (budget : ℕ) (d : Lent) (x : Answer) (e : fitNuTuned tune n m l nu eps shrinking budget d .out ≡ Accepted x) where
   abbrev nuK : Fit
-  nuK = nuFit n l nu eps shrinking
+  nuK = nuFit tune n l nu eps shrinking
 
-  nu-entered : (sizesOf n (eqb (length l) n) m d ≡ 0) × (fitNuOf n m l nu eps shrinking budget d ≡ fitNuSized n m l nu eps shrinking budget d)
-  unfolding fitNuOf
-  nu-entered = entered-in (fitNuSized n m l nu eps shrinking budget d) d x (sizesOf n (eqb (length l) n) m d) e
+  nu-entered : (sizesOf n (eqb (length l) n) m d ≡ 0) × (fitNuTuned tune n m l nu eps shrinking budget d ≡ fitNuTunedSized tune n m l nu eps shrinking budget d)
+  unfolding fitNuTuned
+  nu-entered = entered-in (fitNuTunedSized tune n m l nu eps shrinking budget d) d x (sizesOf n (eqb (length l) n) m d) e
 
-  nu-decided : (nuJudged n m l nu eps budget ≡ Fine) × (fitNuSized n m l nu eps shrinking budget d ≡ fittedTo nuK m budget d)
-  unfolding fitNuSized
-  nu-decided = decided-in (fittedTo nuK m budget d) d x (nuJudged n m l nu eps budget) (out-of x _ _ (nu-entered .1) e)
+  nu-decided : (floorJudged (tune .floor) (nuJudged n m l nu eps budget) ≡ Fine) × (fitNuTunedSized tune n m l nu eps shrinking budget d ≡ fittedTo nuK m budget d)
+  unfolding fitNuTunedSized
+  nu-decided = decided-in (fittedTo nuK m budget d) d x (floorJudged (tune .floor) (nuJudged n m l nu eps budget)) (out-of x _ _ (nu-entered .1) e)
 
-  -- no refusal from 3 to 10
+  -- no refusal from 3 to 10, and not 14
   pub nu-judged : nuJudged n m l nu eps budget ≡ Fine
-  nu-judged = nu-decided .0
+  nu-judged = floor-fine (tune .floor) (nuJudged n m l nu eps budget) (nu-decided .0) .0
 
-  pub nu-served : Served (nuFit n l nu eps shrinking) m budget d (fitNuOf n m l nu eps shrinking budget d)
+  pub nu-floored : floorGood (tune .floor) ≡ true
+  nu-floored = floor-fine (tune .floor) (nuJudged n m l nu eps budget) (nu-decided .0) .1
+
+  pub nu-served : Served (nuFit tune n l nu eps shrinking) m budget d (fitNuTuned tune n m l nu eps shrinking budget d)
   nu-served =
       let r = room-of n (eqb (length l) n) (length m) (length (d .crate)) (length (d .home)) (length (d .floats)) (length (d .numbers)) (length (d .bytes)) (nu-entered .0) in
       record { square = refl; room = r; usable = usable-nu n m budget (r .most) (r .matrix) l nu eps nu-judged; same = nu-entered .1 ∙ nu-decided .1 }
 
   -- what home answers for sample s
-  pub nu-home : (s : ℕ) → s < n → getD (fitNuOf n m l nu eps shrinking budget d .left .home) s nan ≡ ownWeight (nuFit n l nu eps shrinking) m d budget s
+  pub nu-home : (s : ℕ) → s < n → getD (fitNuTuned tune n m l nu eps shrinking budget d .left .home) s nan ≡ ownWeight (nuFit tune n l nu eps shrinking) m d budget s
   nu-home = served-home nu-served x e
 
   -- after each number of passes
-  pub nu-travels : (t : ℕ) → Travelled n (λ s. getD l s 0) (λ s. getD nothing s nan) (after (nuFit n l nu eps shrinking) m d t .state)
+  pub nu-travels : (t : ℕ) → Travelled n (λ s. getD l s 0) (λ s. getD nothing s nan) (after (nuFit tune n l nu eps shrinking) m d t .state)
   nu-travels = served-travels nu-served
 
 -- ---- one-class
 
-module _ (n : ℕ) (m : List ℕ) (nu eps : Float) (shrinking : Bool) (budget : ℕ) (d : Lent) (x : Answer) (e : fitOneClassOf n m nu eps shrinking budget d .out ≡ Accepted x) where
+module _ (tune : Tuning) (n : ℕ) (m : List ℕ) (nu eps : Float) (shrinking : Bool) (budget : ℕ) (d : Lent) (x : Answer) (e : fitOneClassTuned tune n m nu eps shrinking budget d .out ≡ Accepted x) where
   abbrev oneClassK : Fit
-  oneClassK = oneClassFit n nu eps shrinking
+  oneClassK = oneClassFit tune n nu eps shrinking
 
-  one-class-entered : (sizesOf n (true) m d ≡ 0) × (fitOneClassOf n m nu eps shrinking budget d ≡ fitOneClassSized n m nu eps shrinking budget d)
-  unfolding fitOneClassOf
-  one-class-entered = entered-in (fitOneClassSized n m nu eps shrinking budget d) d x (sizesOf n (true) m d) e
+  one-class-entered : (sizesOf n (true) m d ≡ 0) × (fitOneClassTuned tune n m nu eps shrinking budget d ≡ fitOneClassTunedSized tune n m nu eps shrinking budget d)
+  unfolding fitOneClassTuned
+  one-class-entered = entered-in (fitOneClassTunedSized tune n m nu eps shrinking budget d) d x (sizesOf n (true) m d) e
 
-  one-class-decided : (oneClassJudged n m nu eps budget ≡ Fine) × (fitOneClassSized n m nu eps shrinking budget d ≡ fittedTo oneClassK m budget d)
-  unfolding fitOneClassSized
-  one-class-decided = decided-in (fittedTo oneClassK m budget d) d x (oneClassJudged n m nu eps budget) (out-of x _ _ (one-class-entered .1) e)
+  one-class-decided : (floorJudged (tune .floor) (oneClassJudged n m nu eps budget) ≡ Fine) × (fitOneClassTunedSized tune n m nu eps shrinking budget d ≡ fittedTo oneClassK m budget d)
+  unfolding fitOneClassTunedSized
+  one-class-decided = decided-in (fittedTo oneClassK m budget d) d x (floorJudged (tune .floor) (oneClassJudged n m nu eps budget)) (out-of x _ _ (one-class-entered .1) e)
 
-  -- no refusal from 3 to 10
+  -- no refusal from 3 to 10, and not 14
   pub one-class-judged : oneClassJudged n m nu eps budget ≡ Fine
-  one-class-judged = one-class-decided .0
+  one-class-judged = floor-fine (tune .floor) (oneClassJudged n m nu eps budget) (one-class-decided .0) .0
 
-  pub one-class-served : Served (oneClassFit n nu eps shrinking) m budget d (fitOneClassOf n m nu eps shrinking budget d)
+  pub one-class-floored : floorGood (tune .floor) ≡ true
+  one-class-floored = floor-fine (tune .floor) (oneClassJudged n m nu eps budget) (one-class-decided .0) .1
+
+  pub one-class-served : Served (oneClassFit tune n nu eps shrinking) m budget d (fitOneClassTuned tune n m nu eps shrinking budget d)
   one-class-served =
       let r = room-of n (true) (length m) (length (d .crate)) (length (d .home)) (length (d .floats)) (length (d .numbers)) (length (d .bytes)) (one-class-entered .0) in
       record { square = refl; room = r; usable = usable-one-class n m budget (r .most) (r .matrix) nu eps one-class-judged; same = one-class-entered .1 ∙ one-class-decided .1 }
 
   -- what home answers for sample s
-  pub one-class-home : (s : ℕ) → s < n → getD (fitOneClassOf n m nu eps shrinking budget d .left .home) s nan ≡ ownWeight (oneClassFit n nu eps shrinking) m d budget s
+  pub one-class-home : (s : ℕ) → s < n → getD (fitOneClassTuned tune n m nu eps shrinking budget d .left .home) s nan ≡ ownWeight (oneClassFit tune n nu eps shrinking) m d budget s
   one-class-home = served-home one-class-served x e
 
   -- after each number of passes
-  pub one-class-travels : (t : ℕ) → Travelled n (λ s. getD (allPositive n) s 0) (λ s. getD nothing s nan) (after (oneClassFit n nu eps shrinking) m d t .state)
+  pub one-class-travels : (t : ℕ) → Travelled n (λ s. getD (allPositive n) s 0) (λ s. getD nothing s nan) (after (oneClassFit tune n nu eps shrinking) m d t .state)
   one-class-travels = served-travels one-class-served

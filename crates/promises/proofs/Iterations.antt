@@ -10,11 +10,12 @@ use Rattle.answer.specs.Solved.{stuck, settledBy, solved}
 use Rattle.answer.specs.declared.Answer.{Answer}
 use Rattle.answer.specs.declared.Finish.{Finish}
 use Rattle.answer.specs.declared.Outcome.the-variants.{Accepted}
-use Rattle.classification.specs.Entries.{fitted, generalOf, fitCOf, fitNuOf, fitOneClassOf}
+use Rattle.classification.specs.Entries.{fitted, generalTuned, fitCTuned, fitNuTuned, fitOneClassTuned}
 use Rattle.classification.proofs.Accepts.{refused-apart}
 use Rattle.solver.specs.Run.{Full}
 use Rattle.solver.specs.declared.Given.{Given}
 use Rattle.trace.proofs.Trace.{trained-iterations, trained-at-most}
+use Rattle.tuning.specs.declared.Tuning.{Tuning}
 use Rattle.promises.specs.Fit.{Fit, generalFit, cFit, nuFit, oneClassFit, startFrom, runOf, Counts}
 use Rattle.promises.proofs.Entries.{general-served, c-served, nu-served, one-class-served}
 use Rattle.promises.proofs.Retired.{iterationsOf}
@@ -35,18 +36,18 @@ served-iterations {k = k} {m = m} {budget = budget} {d = d} v x e =
     let l = trained-at-most (k .given) m (k .ceilings) budget (startFrom k m d) in
     (sym q ∙ i, omega arith)
 
-pub general-iterations : (n : ℕ) (m l : List ℕ) (c a p : List Float) (nurule : Bool) (eps : Float) (shrinking : Bool) (budget : ℕ) (d : Lent) (x : Answer)
-    → generalOf n m l c a p nurule eps shrinking budget d .out ≡ Accepted x → Counts (generalFit n l c a p nurule eps shrinking) m d budget (x .iterations)
-general-iterations n m l c a p nurule eps shrinking budget d x e = served-iterations (general-served n m l c a p nurule eps shrinking budget d x e) x e
+pub general-iterations : (tune : Tuning) (n : ℕ) (m l : List ℕ) (c a p : List Float) (nurule : Bool) (eps : Float) (shrinking : Bool) (budget : ℕ) (d : Lent) (x : Answer)
+    → generalTuned tune n m l c a p nurule eps shrinking budget d .out ≡ Accepted x → Counts (generalFit tune n l c a p nurule eps shrinking) m d budget (x .iterations)
+general-iterations tune n m l c a p nurule eps shrinking budget d x e = served-iterations (general-served tune n m l c a p nurule eps shrinking budget d x e) x e
 
-pub c-iterations : (n : ℕ) (m l : List ℕ) (cpos cneg eps : Float) (shrinking : Bool) (budget : ℕ) (d : Lent) (x : Answer) → fitCOf n m l cpos cneg eps shrinking budget d .out ≡ Accepted x
-    → Counts (cFit n l cpos cneg eps shrinking) m d budget (x .iterations)
-c-iterations n m l cpos cneg eps shrinking budget d x e = served-iterations (c-served n m l cpos cneg eps shrinking budget d x e) x e
+pub c-iterations : (tune : Tuning) (n : ℕ) (m l : List ℕ) (cpos cneg eps : Float) (shrinking : Bool) (budget : ℕ) (d : Lent) (x : Answer) → fitCTuned tune n m l cpos cneg eps shrinking budget d .out ≡ Accepted x
+    → Counts (cFit tune n l cpos cneg eps shrinking) m d budget (x .iterations)
+c-iterations tune n m l cpos cneg eps shrinking budget d x e = served-iterations (c-served tune n m l cpos cneg eps shrinking budget d x e) x e
 
-pub nu-iterations : (n : ℕ) (m l : List ℕ) (nu eps : Float) (shrinking : Bool) (budget : ℕ) (d : Lent) (x : Answer) → fitNuOf n m l nu eps shrinking budget d .out ≡ Accepted x
-    → Counts (nuFit n l nu eps shrinking) m d budget (x .iterations)
-nu-iterations n m l nu eps shrinking budget d x e = served-iterations (nu-served n m l nu eps shrinking budget d x e) x e
+pub nu-iterations : (tune : Tuning) (n : ℕ) (m l : List ℕ) (nu eps : Float) (shrinking : Bool) (budget : ℕ) (d : Lent) (x : Answer) → fitNuTuned tune n m l nu eps shrinking budget d .out ≡ Accepted x
+    → Counts (nuFit tune n l nu eps shrinking) m d budget (x .iterations)
+nu-iterations tune n m l nu eps shrinking budget d x e = served-iterations (nu-served tune n m l nu eps shrinking budget d x e) x e
 
-pub one-class-iterations : (n : ℕ) (m : List ℕ) (nu eps : Float) (shrinking : Bool) (budget : ℕ) (d : Lent) (x : Answer) → fitOneClassOf n m nu eps shrinking budget d .out ≡ Accepted x
-    → Counts (oneClassFit n nu eps shrinking) m d budget (x .iterations)
-one-class-iterations n m nu eps shrinking budget d x e = served-iterations (one-class-served n m nu eps shrinking budget d x e) x e
+pub one-class-iterations : (tune : Tuning) (n : ℕ) (m : List ℕ) (nu eps : Float) (shrinking : Bool) (budget : ℕ) (d : Lent) (x : Answer) → fitOneClassTuned tune n m nu eps shrinking budget d .out ≡ Accepted x
+    → Counts (oneClassFit tune n nu eps shrinking) m d budget (x .iterations)
+one-class-iterations tune n m nu eps shrinking budget d x e = served-iterations (one-class-served tune n m nu eps shrinking budget d x e) x e

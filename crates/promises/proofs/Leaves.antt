@@ -2,6 +2,7 @@
 use Prim.Native.Nat.{ℕ, _*_, _≤_}
 use mathlib.Core.Bool.{Bool, true, false, _&&_, cond, true≢false}
 use mathlib.Core.List.{List}
+use mathlib.Core.Logic.{inl, inr}
 use mathlib.Core.Path.{_≡_, refl, sym, _∙_}
 use native.Mathlib.Omega.{arith}
 use borrow.Author.Tests.{eqb-true}
@@ -15,29 +16,32 @@ use Rattle.answer.specs.Solved as Solved
 use Rattle.answer.specs.Solved.{Read, stuck, levelAt, settledBy, closedWith, solved}
 use Rattle.answer.specs.declared.Finish.{Finish}
 use Rattle.answer.specs.declared.Outcome.the-variants.{Refused}
-use Rattle.classification.specs.Entries.{givenOf, scratchOf, fitted, decided, entered, sizesOf, generalSized, generalOf, fitCSized, fitCOf, fitNuSized, fitNuOf, fitOneClassSized, fitOneClassOf}
+use Rattle.classification.specs.Entries.{givenBy, scratchOf, fitted, decided, entered, sizesOf, generalTunedSized, generalTuned, fitCTunedSized, fitCTuned, fitNuTunedSized, fitNuTuned, fitOneClassTunedSized, fitOneClassTuned}
 use Rattle.classification.proofs.Accepts.{refused-apart}
 use Rattle.classification.proofs.Laws.{usable-general, usable-c, usable-nu, usable-one-class}
 use Rattle.fits.specs.Load.{loaded}
 use Rattle.fits.proofs.Loaded.{length-numbers, sample-loaded}
-use Rattle.judge.specs.Judge.{generalJudged, retiredJudged, cJudged, nuJudged, oneClassJudged}
+use Rattle.judge.specs.Judge.{generalJudged, floorJudged, retiredJudged, cJudged, nuJudged, oneClassJudged}
 use Rattle.judge.specs.Sizes.{Room, countGood, roomGood, sizes}
 use Rattle.judge.specs.declared.Judged.{Judged}
 use Rattle.judge.specs.declared.Judged.the-variants.{Fine, Bad}
+use Rattle.judge.proofs.Accepted.{floor-fine}
 use Rattle.judge.proofs.Lengths.{room-of}
 use Rattle.kernel.specs.declared.Kind.the-variants.{TwoClass}
 use Rattle.lists.proofs.Later.{prefix-later}
 use Rattle.lists.proofs.Prefix.{prefix-length, filled-at}
 use Rattle.readings.specs.Order.{crateReading, homeReading, weightIn, NamesSamples}
 use Rattle.readings.proofs.Order.{length-gathered, length-scattered, crate-after, home-after}
-use Rattle.retired.specs.Entry.{standsIn, kept, answeredOver, fittedOver, retiredSized, retiredOf}
+use Rattle.retired.specs.Entry.{standsIn, kept, answeredOver, fittedOver, retiredTunedSized, retiredTuned}
 use Rattle.solver.specs.Run.{Full}
 use Rattle.solver.specs.declared.Given.{Given}
 use Rattle.standing.specs.Run.{trainedOver}
 use Rattle.standing.proofs.Independent.{trained-order}
 use Rattle.state.specs.Lists.{State}
 use Rattle.travel.proofs.Travel.{travelled-trained}
+use Rattle.tuning.specs.declared.Tuning.{Tuning}
 use Rattle.promises.specs.Fit.{Fit, generalFit, cFit, nuFit, oneClassFit, startFrom, runOf}
+use Rattle.promises.specs.Numbers.{Numbered, RetiredNumbered}
 use Rattle.promises.specs.Leaves.{Beyond, hasRun, Leaves}
 use Rattle.promises.proofs.Beyond.{beyond-refl, beyond-trans, Scratch, scratch-refl, scratch-trans, run-beyond, cleared-beyond}
 use Rattle.promises.proofs.Numbers.{general-sized-number, c-sized-number, nu-sized-number, one-class-sized-number, retired-sized-number}
@@ -146,39 +150,47 @@ module _ {k : Fit} {m : List ℕ} {budget : ℕ} {d : Lent} {o : Whole} (v : Ser
   unfolding fitted solved
   served-leaves = rw (v .same) (settled-leaves (stuck (w .run .status)))
 
+not-eleven : (x : Float) (k : ℕ) → Numbered x false k → k ≡ 11 → ⊥
+not-eleven x k (inl h) e = omega arith
+not-eleven x k (inr h) e = let q = h .0 in omega arith
+
+not-eleven-retired : (x : Float) (k : ℕ) → RetiredNumbered x k → k ≡ 11 → ⊥
+not-eleven-retired x k (inl h) e = h .2 e
+not-eleven-retired x k (inr h) e = let q = h .0 in omega arith
+
 -- ---- the entries; that nothing is judged with 11 is what shrinking off says of its number
 
-module _ (n : ℕ) (m l : List ℕ) (c a p : List Float) (nurule : Bool) (eps : Float) (shrinking : Bool) (budget : ℕ) (d : Lent) where
-  pub general-leaves : Leaves n d (generalOf n m l c a p nurule eps shrinking budget d)
-  unfolding generalOf generalSized decided
+module _ (tune : Tuning) (n : ℕ) (m l : List ℕ) (c a p : List Float) (nurule : Bool) (eps : Float) (shrinking : Bool) (budget : ℕ) (d : Lent) where
+  pub general-leaves : Leaves n d (generalTuned tune n m l c a p nurule eps shrinking budget d)
+  unfolding generalTuned generalTunedSized decided
   general-leaves =
-      entry-leaves n (eqb (length l) n && eqb (length c) n && eqb (length a) n && eqb (length p) n) m (generalJudged n m l c a p eps budget) _ d
-      (λ q i e z. let h = general-sized-number n m l c a p nurule eps false budget d q i (rw e) in omega arith)
-      (λ r f. served-leaves {k = generalFit n l c a p nurule eps shrinking} (record { square = refl; room = r; usable = usable-general n m budget (r .most) (r .matrix) l c a p eps f; same = refl }))
+      entry-leaves n (eqb (length l) n && eqb (length c) n && eqb (length a) n && eqb (length p) n) m (floorJudged (tune .floor) (generalJudged n m l c a p eps budget)) _ d
+      (λ q i e. not-eleven (tune .floor) q (general-sized-number tune n m l c a p nurule eps false budget d q i (rw e)))
+      (λ r f. served-leaves {k = generalFit tune n l c a p nurule eps shrinking} (record { square = refl; room = r; usable = usable-general n m budget (r .most) (r .matrix) l c a p eps (floor-fine (tune .floor) _ f .0); same = refl }))
 
-module _ (n : ℕ) (m l : List ℕ) (cpos cneg eps : Float) (shrinking : Bool) (budget : ℕ) (d : Lent) where
-  pub c-leaves : Leaves n d (fitCOf n m l cpos cneg eps shrinking budget d)
-  unfolding fitCOf fitCSized decided
+module _ (tune : Tuning) (n : ℕ) (m l : List ℕ) (cpos cneg eps : Float) (shrinking : Bool) (budget : ℕ) (d : Lent) where
+  pub c-leaves : Leaves n d (fitCTuned tune n m l cpos cneg eps shrinking budget d)
+  unfolding fitCTuned fitCTunedSized decided
   c-leaves =
-      entry-leaves n (eqb (length l) n) m (cJudged n m l cpos cneg eps budget) _ d
-      (λ q i e z. let h = c-sized-number n m l cpos cneg eps false budget d q i (rw e) in omega arith)
-      (λ r f. served-leaves {k = cFit n l cpos cneg eps shrinking} (record { square = refl; room = r; usable = usable-c n m budget (r .most) (r .matrix) l cpos cneg eps f; same = refl }))
+      entry-leaves n (eqb (length l) n) m (floorJudged (tune .floor) (cJudged n m l cpos cneg eps budget)) _ d
+      (λ q i e. not-eleven (tune .floor) q (c-sized-number tune n m l cpos cneg eps false budget d q i (rw e)))
+      (λ r f. served-leaves {k = cFit tune n l cpos cneg eps shrinking} (record { square = refl; room = r; usable = usable-c n m budget (r .most) (r .matrix) l cpos cneg eps (floor-fine (tune .floor) _ f .0); same = refl }))
 
-module _ (n : ℕ) (m l : List ℕ) (nu eps : Float) (shrinking : Bool) (budget : ℕ) (d : Lent) where
-  pub nu-leaves : Leaves n d (fitNuOf n m l nu eps shrinking budget d)
-  unfolding fitNuOf fitNuSized decided
+module _ (tune : Tuning) (n : ℕ) (m l : List ℕ) (nu eps : Float) (shrinking : Bool) (budget : ℕ) (d : Lent) where
+  pub nu-leaves : Leaves n d (fitNuTuned tune n m l nu eps shrinking budget d)
+  unfolding fitNuTuned fitNuTunedSized decided
   nu-leaves =
-      entry-leaves n (eqb (length l) n) m (nuJudged n m l nu eps budget) _ d
-      (λ q i e z. let h = nu-sized-number n m l nu eps false budget d q i (rw e) in omega arith)
-      (λ r f. served-leaves {k = nuFit n l nu eps shrinking} (record { square = refl; room = r; usable = usable-nu n m budget (r .most) (r .matrix) l nu eps f; same = refl }))
+      entry-leaves n (eqb (length l) n) m (floorJudged (tune .floor) (nuJudged n m l nu eps budget)) _ d
+      (λ q i e. not-eleven (tune .floor) q (nu-sized-number tune n m l nu eps false budget d q i (rw e)))
+      (λ r f. served-leaves {k = nuFit tune n l nu eps shrinking} (record { square = refl; room = r; usable = usable-nu n m budget (r .most) (r .matrix) l nu eps (floor-fine (tune .floor) _ f .0); same = refl }))
 
-module _ (n : ℕ) (m : List ℕ) (nu eps : Float) (shrinking : Bool) (budget : ℕ) (d : Lent) where
-  pub one-class-leaves : Leaves n d (fitOneClassOf n m nu eps shrinking budget d)
-  unfolding fitOneClassOf fitOneClassSized decided
+module _ (tune : Tuning) (n : ℕ) (m : List ℕ) (nu eps : Float) (shrinking : Bool) (budget : ℕ) (d : Lent) where
+  pub one-class-leaves : Leaves n d (fitOneClassTuned tune n m nu eps shrinking budget d)
+  unfolding fitOneClassTuned fitOneClassTunedSized decided
   one-class-leaves =
-      entry-leaves n true m (oneClassJudged n m nu eps budget) _ d
-      (λ q i e z. let h = one-class-sized-number n m nu eps false budget d q i (rw e) in omega arith)
-      (λ r f. served-leaves {k = oneClassFit n nu eps shrinking} (record { square = refl; room = r; usable = usable-one-class n m budget (r .most) (r .matrix) nu eps f; same = refl }))
+      entry-leaves n true m (floorJudged (tune .floor) (oneClassJudged n m nu eps budget)) _ d
+      (λ q i e. not-eleven (tune .floor) q (one-class-sized-number tune n m nu eps false budget d q i (rw e)))
+      (λ r f. served-leaves {k = oneClassFit tune n nu eps shrinking} (record { square = refl; room = r; usable = usable-one-class n m budget (r .most) (r .matrix) nu eps (floor-fine (tune .floor) _ f .0); same = refl }))
 
 -- ---- the entry with retired samples, which never refuses with 11
 
@@ -198,10 +210,10 @@ over-leaves stands g m l c a p budget d f u y =
     after-run (g .n) d (scratchOf d) (scratch-refl (g .n) (scratchOf d)) f u y _ refl (λ q i e. absurd (refused-apart q i _ (sym e)))
     (crate-beyond (g .n) (w .state .numbers) weights (d .crate)) (home-beyond (g .n) (w .state .numbers) weights (d .home) inside)
 
-module _ (n : ℕ) (m l : List ℕ) (c a p : List Float) (r : List ℕ) (nurule : Bool) (eps : Float) (shrinking : Bool) (budget : ℕ) (d : Lent) where
-  pub retired-leaves : Leaves n d (retiredOf n m l c a p r nurule eps shrinking budget d)
-  unfolding retiredOf retiredSized decided
+module _ (tune : Tuning) (n : ℕ) (m l : List ℕ) (c a p : List Float) (r : List ℕ) (nurule : Bool) (eps : Float) (shrinking : Bool) (budget : ℕ) (d : Lent) where
+  pub retired-leaves : Leaves n d (retiredTuned tune n m l c a p r nurule eps shrinking budget d)
+  unfolding retiredTuned retiredTunedSized decided
   retired-leaves =
-      entry-leaves n (eqb (length l) n && eqb (length c) n && eqb (length a) n && eqb (length p) n && eqb (length r) n) m (retiredJudged n m l c a p r eps shrinking budget) _ d
-      (λ q i e. retired-sized-number n m l c a p r nurule eps shrinking budget d q i (rw e) .2)
-      (λ v f. over-leaves (standsIn r) (givenOf n TwoClass eps false nurule) m l c (kept r a n) (kept r p n) budget d (v .floats) (v .numbers) (v .bytes))
+      entry-leaves n (eqb (length l) n && eqb (length c) n && eqb (length a) n && eqb (length p) n && eqb (length r) n) m (retiredJudged (tune .floor) n m l c a p r eps shrinking budget) _ d
+      (λ q i e. not-eleven-retired (tune .floor) q (retired-sized-number tune n m l c a p r nurule eps shrinking budget d q i (rw e)))
+      (λ v f. over-leaves (standsIn r) (givenBy tune n TwoClass eps false nurule) m l c (kept r a n) (kept r p n) budget d (v .floats) (v .numbers) (v .bytes))

@@ -1,15 +1,16 @@
--- The number that the rule gives an entry's outcome: from 1 to 11 where it refuses, with shrinking off to 10, with retired samples 12 and 13 but never 11;
--- and 0 only where it accepts.
--- Assumes nothing.
+-- The number that the rule gives an entry's outcome: from 1 to 11 where it refuses, with shrinking off to 10, with retired samples 12 and 13 but never 11,
+-- and 14 where the floor isn't good; 0 only where it accepts. Assumes nothing.
 use Prim.Native.Nat.{ℕ, zero, suc, _*_, _≤_}
-use mathlib.Core.Bool.{Bool, true, false, not, _&&_, cond, true≢false}
+use mathlib.Core.Bool.{Bool, true, false, not, _&&_, _||_, cond, true≢false}
 use mathlib.Core.List.{List}
+use mathlib.Core.Logic.{_⊎_, inl, inr}
 use mathlib.Core.Path.{_≡_, refl, sym, ap, _∙_}
 use native.Mathlib.Omega.{arith}
-use borrow.Author.Tests.{leb-true, le-leb, eq-eqb, ne-eqb}
+use borrow.Author.Tests.{leb-true, le-leb, eqb-true, eq-eqb, ne-eqb}
 use lib.Dec.{eqb, leb}
 use lib.Ieee.{Float}
 use lib.ListN.{length, getD}
+use Rattle.alpha.specs.Weight as Weight
 use Rattle.alpha.specs.Weight.{one, minusOne}
 use Rattle.answer.specs.Answer.{wordsOf}
 use Rattle.answer.specs.Lent.{Lent, Whole}
@@ -19,18 +20,21 @@ use Rattle.answer.specs.declared.Finish.{Finish}
 use Rattle.answer.specs.declared.Finish.the-variants.{Plain, Signed, Scaled}
 use Rattle.answer.specs.declared.Outcome.{Outcome}
 use Rattle.answer.specs.declared.Outcome.the-variants.{Accepted, Refused}
-use Rattle.classification.specs.Entries.{givenOf, fitted, decided, entered, sizesOf, generalSized, generalOf, fitCSized, fitCOf, fitNuSized, fitNuOf, fitOneClassSized, fitOneClassOf}
+use Rattle.classification.specs.Entries.{givenBy, fitted, decided, entered, sizesOf, generalTunedSized, generalTuned, fitCTunedSized, fitCTuned, fitNuTunedSized, fitNuTuned, fitOneClassTunedSized, fitOneClassTuned}
 use Rattle.fits.specs.Starts.{nothing, evenly, allPositive, costsTo, half, sharedTo, oneClassTo}
-use Rattle.judge.specs.Judge.{first, need, andThen, entryGood, labelGood, ceilingGood, costGood, alphaGood, linearGood, epsGood, nuGood, budgetGood, bytesGood, samplesJudged, generalJudged, retiredJudged, cJudged, nuJudged, oneClassJudged}
+use Rattle.judge.specs.Judge.{first, need, andThen, entryGood, labelGood, ceilingGood, costGood, alphaGood, linearGood, epsGood, nuGood, budgetGood, floorGood, bytesGood, floorJudged, samplesJudged, generalJudged, retiredJudged, cJudged, nuJudged, oneClassJudged}
 use Rattle.judge.specs.Sizes.{countGood, roomGood, sizes}
 use Rattle.judge.specs.declared.Judged.{Judged}
 use Rattle.judge.specs.declared.Judged.the-variants.{Fine, Bad}
 use Rattle.kernel.specs.declared.Kind.the-variants.{TwoClass, OneClass}
-use Rattle.retired.specs.Entry.{standsIn, kept, answeredOver, fittedOver, retiredSized, retiredOf}
+use Rattle.retired.specs.Entry.{standsIn, kept, answeredOver, fittedOver, retiredTunedSized, retiredTuned}
 use Rattle.rounding.proofs.Order.{both}
 use Rattle.solver.specs.Run.{Full}
 use Rattle.solver.specs.declared.Given.{Given}
+use Rattle.classification.proofs.Plain.{plain-good}
 use Rattle.classification.proofs.Still.{trained-still}
+use Rattle.tuning.specs.declared.Tuning.{Tuning}
+use Rattle.promises.specs.Numbers.{Numbered, RetiredNumbered}
 
 abbrev most : Bool → ℕ
 most shrinking = cond shrinking 11 10
@@ -52,6 +56,33 @@ judgedSo ok (Bad number index) = ok number
 at-most-ten : (q : Bool) (k : ℕ) → listed false k ≡ true → listed q k ≡ true
 at-most-ten true k h = let p = both (some k) (leb k (most false)) h in let t = leb-true k (most false) (p .1) in rw (p .0, le-leb k (most true) (omega arith))
 at-most-ten false k h = h
+
+-- those of f, and 14 where the floor x isn't good
+unfoldable orFloor : Float → (ℕ → Bool) → ℕ → Bool
+orFloor x f k = f k || (eqb k 14 && not (floorGood x))
+
+with-floor : (x : Float) (f : ℕ → Bool) → ((k : ℕ) → listed false k ≡ true → f k ≡ true) → (k : ℕ) → listed false k ≡ true → orFloor x f k ≡ true
+unfolding orFloor
+with-floor x f ten k h = rw (ten k h)
+
+fourteen : (x : Float) (f : ℕ → Bool) → floorGood x ≡ false → orFloor x f 14 ≡ true
+unfolding orFloor
+fourteen x f h = rw h (or-true (f 14))
+  where
+    or-true : (b : Bool) → (b || true) ≡ true
+    or-true true = refl
+    or-true false = refl
+
+-- which of the two it is
+floor-or : (x : Float) (f : ℕ → Bool) (k : ℕ) → orFloor x f k ≡ true → (f k ≡ true) ⊎ ((k ≡ 14) × (floorGood x ≡ false))
+unfolding orFloor
+floor-or x f k = go (f k) (eqb k 14) refl (floorGood x)
+  where
+    go : (a b : Bool) → eqb k 14 ≡ b → (c : Bool) → (a || (b && not c)) ≡ true → (a ≡ true) ⊎ ((k ≡ 14) × (c ≡ false))
+    go true b e c h = inl refl
+    go false true e false h = inr (eqb-true k 14 e, refl)
+    go false true e true h = absurd (true≢false (sym h))
+    go false false e c h = absurd (true≢false (sym h))
 
 -- the numbers that may be given: 1 to 10 among them
 module _ (ok : ℕ → Bool) (ten : (k : ℕ) → listed false k ≡ true → ok k ≡ true) where
@@ -104,6 +135,13 @@ module _ (ok : ℕ → Bool) (ten : (k : ℕ) → listed false k ≡ true → ok
       let j8 = and-then-so _ _ (first-so 3 (ten 3 refl) (entryGood m) (n * n) 0) (need-so 8 (ten 8 refl) (epsGood eps)) in
       and-then-so _ _ (and-then-so _ _ j8 (need-so 9 (ten 9 refl) (nuGood nu))) (need-so 10 (ten 10 refl) (budgetGood budget))
 
+  floor-so : (x : Float) → (floorGood x ≡ false → ok 14 ≡ true) → (j : Judged) → judgedSo ok j ≡ true → judgedSo ok (floorJudged x j) ≡ true
+  floor-so x h j g = and-then-so j (need 14 (floorGood x)) g (go (floorGood x) refl)
+    where
+      go : (b : Bool) → floorGood x ≡ b → judgedSo ok (need 14 b) ≡ true
+      go true e = unfold judgedSo in refl
+      go false e = unfold judgedSo in h e
+
   -- ---- from what is judged to the outcome
 
   -- refusals from 3 on
@@ -123,17 +161,17 @@ module _ (ok : ℕ → Bool) (ten : (k : ℕ) → listed false k ≡ true → ok
       go true false = ten 2 refl
       go false b = ten 1 refl
 
-settled-so : (q b : Bool) (g : Given) (how : Finish) (l : List ℕ) (budget : ℕ) (w : Full) (c h : List Float) → (q ≡ false → b ≡ false)
-    → numbered (listed q) (settledBy b g how l budget w c h .out) ≡ true
-unfolding settledBy numbered
-settled-so true true g how l budget w c h s = refl
-settled-so false true g how l budget w c h s = absurd (true≢false (s refl))
-settled-so q false g how l budget w c h s = refl
+settled-so : (x : Float) (q b : Bool) (g : Given) (how : Finish) (l : List ℕ) (budget : ℕ) (w : Full) (c h : List Float) → (q ≡ false → b ≡ false)
+    → numbered (orFloor x (listed q)) (settledBy b g how l budget w c h .out) ≡ true
+unfolding settledBy numbered orFloor
+settled-so x true true g how l budget w c h s = refl
+settled-so x false true g how l budget w c h s = absurd (true≢false (s refl))
+settled-so x q false g how l budget w c h s = refl
 
-fitted-so : (g : Given) (how : Finish) (m l : List ℕ) (c a p : List Float) (budget : ℕ) (d : Lent) → numbered (listed (g .shrinking)) (fitted g how m l c a p budget d .out) ≡ true
+fitted-so : (x : Float) (g : Given) (how : Finish) (m l : List ℕ) (c a p : List Float) (budget : ℕ) (d : Lent) → numbered (orFloor x (listed (g .shrinking))) (fitted g how m l c a p budget d .out) ≡ true
 unfolding fitted solved
-fitted-so g how m l c a p budget d =
-    settled-so (g .shrinking) (stuck _) g how l budget _ (d .crate) (d .home) (λ off. trained-still g m c off _ budget _ refl .free)
+fitted-so x g how m l c a p budget d =
+    settled-so x (g .shrinking) (stuck _) g how l budget _ (d .crate) (d .home) (λ off. trained-still g m c off _ budget _ refl .free)
 
 -- ---- what that says
 
@@ -141,39 +179,65 @@ refused-so : (ok : ℕ → Bool) (o : Outcome) → numbered ok o ≡ true → (n
 unfolding numbered
 refused-so ok o h k i e = rw e at h
 
-number-of : (q : Bool) (o : Outcome) → numbered (listed q) o ≡ true → (number index : ℕ) → o ≡ Refused number index → (1 ≤ number) × (number ≤ most q)
-number-of q o h k i e =
-    let p = both (some k) (leb k (most q)) (refused-so (listed q) o h k i e) in
-    (leb-true 1 k (p .0), leb-true k (most q) (p .1))
+number-of : (x : Float) (q : Bool) (o : Outcome) → numbered (orFloor x (listed q)) o ≡ true → (number index : ℕ) → o ≡ Refused number index → Numbered x q number
+number-of x q o h k i e =
+    elim (floor-or x (listed q) k (refused-so (orFloor x (listed q)) o h k i e)) [
+      | inl g ↦ let p = both (some k) (leb k (most q)) g in inl (leb-true 1 k (p .0), leb-true k (most q) (p .1))
+      | inr g ↦ inr g
+    ]
+
+pub some-number : (x : Float) (q : Bool) (k : ℕ) → Numbered x q k → 1 ≤ k
+some-number x q k (inl h) = h .0
+some-number x q k (inr h) = let e = h .0 in omega arith
+
+pub some-retired : (x : Float) (k : ℕ) → RetiredNumbered x k → 1 ≤ k
+some-retired x k (inl h) = h .0
+some-retired x k (inr h) = let e = h .0 in omega arith
+
+-- the published Rust's floor is good
+pub plain-number : (q : Bool) (k : ℕ) → Numbered Weight.floor q k → (1 ≤ k) × (k ≤ cond q 11 10)
+plain-number q k (inl h) = h
+plain-number q k (inr h) = absurd (true≢false (sym plain-good ∙ h .1))
+
+pub plain-retired : (k : ℕ) → RetiredNumbered Weight.floor k → (1 ≤ k) × (k ≤ 13) × (k ≡ 11 → ⊥)
+plain-retired k (inl h) = h
+plain-retired k (inr h) = absurd (true≢false (sym plain-good ∙ h .1))
 
 accepted-by : (ok : ℕ → Bool) (o : Outcome) → (ok 0 ≡ true → ⊥) → numbered ok o ≡ true → getD (wordsOf o) 0 0 ≡ 0 → (x : Answer) × (o ≡ Accepted x)
 unfolding wordsOf numbered
 accepted-by ok (Accepted x) none h z = (x, refl)
 accepted-by ok (Refused k i) none h z = let e : k ≡ 0 = z in absurd (none (rw e at h))
 
-none-listed : (q : Bool) → listed q 0 ≡ true → ⊥
-none-listed q h = let g = leb-true 1 0 (both (some 0) (leb 0 (most q)) h .0) in omega arith
+none-listed : (x : Float) (q : Bool) → orFloor x (listed q) 0 ≡ true → ⊥
+unfolding orFloor
+none-listed x q h = true≢false (sym h)
 
 -- ---- the entries
 
-module _ (n : ℕ) (m l : List ℕ) (c a p : List Float) (nurule : Bool) (eps : Float) (shrinking : Bool) (budget : ℕ) (d : Lent) where
-  general-sized-so : numbered (listed shrinking) (generalSized n m l c a p nurule eps shrinking budget d .out) ≡ true
-  unfolding generalSized
-  general-sized-so = decided-so (listed shrinking) (at-most-ten shrinking) _ (fitted (givenOf n TwoClass eps shrinking nurule) Plain m l c a p budget d) d (general-so (listed shrinking) (at-most-ten shrinking) n m l c a p eps budget) (fitted-so (givenOf n TwoClass eps shrinking nurule) Plain m l c a p budget d)
+abbrev allowed : Float → Bool → ℕ → Bool
+allowed x shrinking = orFloor x (listed shrinking)
 
-  general-entry-so : numbered (listed shrinking) (generalOf n m l c a p nurule eps shrinking budget d .out) ≡ true
-  unfolding generalOf
-  general-entry-so = entered-so (listed shrinking) (at-most-ten shrinking) n (eqb (length l) n && eqb (length c) n && eqb (length a) n && eqb (length p) n) m (generalSized n m l c a p nurule eps shrinking budget d) d general-sized-so
+ten-allowed : (x : Float) (shrinking : Bool) (k : ℕ) → listed false k ≡ true → allowed x shrinking k ≡ true
+ten-allowed x shrinking = with-floor x (listed shrinking) (at-most-ten shrinking)
+
+module _ (tune : Tuning) (n : ℕ) (m l : List ℕ) (c a p : List Float) (nurule : Bool) (eps : Float) (shrinking : Bool) (budget : ℕ) (d : Lent) where
+  general-sized-so : numbered (allowed (tune .floor) shrinking) (generalTunedSized tune n m l c a p nurule eps shrinking budget d .out) ≡ true
+  unfolding generalTunedSized
+  general-sized-so = decided-so (allowed (tune .floor) shrinking) (ten-allowed (tune .floor) shrinking) _ (fitted (givenBy tune n TwoClass eps shrinking nurule) Plain m l c a p budget d) d (floor-so (allowed (tune .floor) shrinking) (ten-allowed (tune .floor) shrinking) (tune .floor) (fourteen (tune .floor) (listed shrinking)) _ (general-so (allowed (tune .floor) shrinking) (ten-allowed (tune .floor) shrinking) n m l c a p eps budget)) (fitted-so (tune .floor) (givenBy tune n TwoClass eps shrinking nurule) Plain m l c a p budget d)
+
+  general-entry-so : numbered (allowed (tune .floor) shrinking) (generalTuned tune n m l c a p nurule eps shrinking budget d .out) ≡ true
+  unfolding generalTuned
+  general-entry-so = entered-so (allowed (tune .floor) shrinking) (ten-allowed (tune .floor) shrinking) n (eqb (length l) n && eqb (length c) n && eqb (length a) n && eqb (length p) n) m (generalTunedSized tune n m l c a p nurule eps shrinking budget d) d general-sized-so
 
   -- without the sizes
-  pub general-sized-number : (number index : ℕ) → generalSized n m l c a p nurule eps shrinking budget d .out ≡ Refused number index → (1 ≤ number) × (number ≤ cond shrinking 11 10)
-  general-sized-number = number-of shrinking _ general-sized-so
+  pub general-sized-number : (number index : ℕ) → generalTunedSized tune n m l c a p nurule eps shrinking budget d .out ≡ Refused number index → Numbered (tune .floor) shrinking number
+  general-sized-number = number-of (tune .floor) shrinking _ general-sized-so
 
-  pub general-number : (number index : ℕ) → generalOf n m l c a p nurule eps shrinking budget d .out ≡ Refused number index → (1 ≤ number) × (number ≤ cond shrinking 11 10)
-  general-number = number-of shrinking _ general-entry-so
+  pub general-number : (number index : ℕ) → generalTuned tune n m l c a p nurule eps shrinking budget d .out ≡ Refused number index → Numbered (tune .floor) shrinking number
+  general-number = number-of (tune .floor) shrinking _ general-entry-so
 
-  pub general-accepts : getD (wordsOf (generalOf n m l c a p nurule eps shrinking budget d .out)) 0 0 ≡ 0 → (x : Answer) × (generalOf n m l c a p nurule eps shrinking budget d .out ≡ Accepted x)
-  general-accepts = accepted-by (listed shrinking) _ (none-listed shrinking) general-entry-so
+  pub general-accepts : getD (wordsOf (generalTuned tune n m l c a p nurule eps shrinking budget d .out)) 0 0 ≡ 0 → (x : Answer) × (generalTuned tune n m l c a p nurule eps shrinking budget d .out ≡ Accepted x)
+  general-accepts = accepted-by (allowed (tune .floor) shrinking) _ (none-listed (tune .floor) shrinking) general-entry-so
 
 -- with retired samples: 1 to 10, 12 and 13
 abbrev retiredNumber : ℕ → Bool
@@ -185,95 +249,104 @@ ten-of-them k h =
     let t = leb-true k (most false) (p .1) in
     rw (p .0, le-leb k 13 (omega arith), ne-eqb k 11 (λ (e : k ≡ 11). omega arith))
 
-module _ (n : ℕ) (m l : List ℕ) (c a p : List Float) (r : List ℕ) (nurule : Bool) (eps : Float) (shrinking : Bool) (budget : ℕ) (d : Lent) where
-  retired-so : judgedSo retiredNumber (retiredJudged n m l c a p r eps shrinking budget) ≡ true
-  unfolding retiredJudged
-  retired-so =
-      and-then-so retiredNumber ten-of-them _ _
-      (and-then-so retiredNumber ten-of-them _ _ (general-so retiredNumber ten-of-them n m l c a p eps budget) (need-so retiredNumber ten-of-them 12 refl (bytesGood r n)))
-      (need-so retiredNumber ten-of-them 13 refl (not shrinking))
+abbrev retiredAllowed : Float → ℕ → Bool
+retiredAllowed x = orFloor x retiredNumber
 
-  retired-fit-so : numbered retiredNumber (fittedOver (standsIn r) (givenOf n TwoClass eps false nurule) m l c (kept r a n) (kept r p n) budget d .out) ≡ true
+ten-retired : (x : Float) (k : ℕ) → listed false k ≡ true → retiredAllowed x k ≡ true
+ten-retired x = with-floor x retiredNumber ten-of-them
+
+module _ (tune : Tuning) (n : ℕ) (m l : List ℕ) (c a p : List Float) (r : List ℕ) (nurule : Bool) (eps : Float) (shrinking : Bool) (budget : ℕ) (d : Lent) where
+  retired-so : judgedSo (retiredAllowed (tune .floor)) (retiredJudged (tune .floor) n m l c a p r eps shrinking budget) ≡ true
+  unfolding retiredJudged orFloor
+  retired-so =
+      let j14 = floor-so (retiredAllowed (tune .floor)) (ten-retired (tune .floor)) (tune .floor) (fourteen (tune .floor) retiredNumber) _ (general-so (retiredAllowed (tune .floor)) (ten-retired (tune .floor)) n m l c a p eps budget) in
+      and-then-so (retiredAllowed (tune .floor)) (ten-retired (tune .floor)) _ _ (and-then-so (retiredAllowed (tune .floor)) (ten-retired (tune .floor)) _ _ j14 (need-so (retiredAllowed (tune .floor)) (ten-retired (tune .floor)) 12 refl (bytesGood r n))) (need-so (retiredAllowed (tune .floor)) (ten-retired (tune .floor)) 13 refl (not shrinking))
+
+  retired-fit-so : numbered (retiredAllowed (tune .floor)) (fittedOver (standsIn r) (givenBy tune n TwoClass eps false nurule) m l c (kept r a n) (kept r p n) budget d .out) ≡ true
   unfolding fittedOver answeredOver numbered
   retired-fit-so = refl
 
-  retired-sized-so : numbered retiredNumber (retiredSized n m l c a p r nurule eps shrinking budget d .out) ≡ true
-  unfolding retiredSized
-  retired-sized-so = decided-so retiredNumber ten-of-them _ (fittedOver (standsIn r) (givenOf n TwoClass eps false nurule) m l c (kept r a n) (kept r p n) budget d) d retired-so retired-fit-so
+  retired-sized-so : numbered (retiredAllowed (tune .floor)) (retiredTunedSized tune n m l c a p r nurule eps shrinking budget d .out) ≡ true
+  unfolding retiredTunedSized
+  retired-sized-so = decided-so (retiredAllowed (tune .floor)) (ten-retired (tune .floor)) _ (fittedOver (standsIn r) (givenBy tune n TwoClass eps false nurule) m l c (kept r a n) (kept r p n) budget d) d retired-so retired-fit-so
 
-  retired-entry-so : numbered retiredNumber (retiredOf n m l c a p r nurule eps shrinking budget d .out) ≡ true
-  unfolding retiredOf
-  retired-entry-so = entered-so retiredNumber ten-of-them n (eqb (length l) n && eqb (length c) n && eqb (length a) n && eqb (length p) n && eqb (length r) n) m (retiredSized n m l c a p r nurule eps shrinking budget d) d retired-sized-so
+  retired-entry-so : numbered (retiredAllowed (tune .floor)) (retiredTuned tune n m l c a p r nurule eps shrinking budget d .out) ≡ true
+  unfolding retiredTuned
+  retired-entry-so = entered-so (retiredAllowed (tune .floor)) (ten-retired (tune .floor)) n (eqb (length l) n && eqb (length c) n && eqb (length a) n && eqb (length p) n && eqb (length r) n) m (retiredTunedSized tune n m l c a p r nurule eps shrinking budget d) d retired-sized-so
 
-  number-told : (o : Outcome) → numbered retiredNumber o ≡ true → (number index : ℕ) → o ≡ Refused number index → (1 ≤ number) × (number ≤ 13) × (number ≡ 11 → ⊥)
+  number-told : (o : Outcome) → numbered (retiredAllowed (tune .floor)) o ≡ true → (number index : ℕ) → o ≡ Refused number index → RetiredNumbered (tune .floor) number
   number-told o h k i e =
-      let p = both (some k && leb k 13) (not (eqb k 11)) (refused-so retiredNumber o h k i e) in
-      let q = both (some k) (leb k 13) (p .0) in
-      (leb-true 1 k (q .0), leb-true k 13 (q .1), λ z. true≢false (sym (p .1) ∙ ap not (eq-eqb k 11 z)))
+      elim (floor-or (tune .floor) retiredNumber k (refused-so (retiredAllowed (tune .floor)) o h k i e)) [
+        | inl g ↦
+            let p = both (some k && leb k 13) (not (eqb k 11)) g in
+            let q = both (some k) (leb k 13) (p .0) in
+            inl (leb-true 1 k (q .0), leb-true k 13 (q .1), λ z. true≢false (sym (p .1) ∙ ap not (eq-eqb k 11 z)))
+        | inr g ↦ inr g
+      ]
 
   -- without the sizes
-  pub retired-sized-number : (number index : ℕ) → retiredSized n m l c a p r nurule eps shrinking budget d .out ≡ Refused number index → (1 ≤ number) × (number ≤ 13) × (number ≡ 11 → ⊥)
+  pub retired-sized-number : (number index : ℕ) → retiredTunedSized tune n m l c a p r nurule eps shrinking budget d .out ≡ Refused number index → RetiredNumbered (tune .floor) number
   retired-sized-number = number-told _ retired-sized-so
 
-  pub retired-number : (number index : ℕ) → retiredOf n m l c a p r nurule eps shrinking budget d .out ≡ Refused number index → (1 ≤ number) × (number ≤ 13) × (number ≡ 11 → ⊥)
+  pub retired-number : (number index : ℕ) → retiredTuned tune n m l c a p r nurule eps shrinking budget d .out ≡ Refused number index → RetiredNumbered (tune .floor) number
   retired-number = number-told _ retired-entry-so
 
-  pub retired-accepts : getD (wordsOf (retiredOf n m l c a p r nurule eps shrinking budget d .out)) 0 0 ≡ 0 → (x : Answer) × (retiredOf n m l c a p r nurule eps shrinking budget d .out ≡ Accepted x)
-  retired-accepts = accepted-by retiredNumber _ (λ z. true≢false (sym z)) retired-entry-so
+  pub retired-accepts : getD (wordsOf (retiredTuned tune n m l c a p r nurule eps shrinking budget d .out)) 0 0 ≡ 0 → (x : Answer) × (retiredTuned tune n m l c a p r nurule eps shrinking budget d .out ≡ Accepted x)
+  retired-accepts = accepted-by (retiredAllowed (tune .floor)) _ (λ z. unfold orFloor in true≢false (sym z)) retired-entry-so
 
-module _ (n : ℕ) (m l : List ℕ) (cpos cneg eps : Float) (shrinking : Bool) (budget : ℕ) (d : Lent) where
-  c-sized-so : numbered (listed shrinking) (fitCSized n m l cpos cneg eps shrinking budget d .out) ≡ true
-  unfolding fitCSized
-  c-sized-so = decided-so (listed shrinking) (at-most-ten shrinking) _ (fitted (givenOf n TwoClass eps shrinking false) Signed m l (costsTo cpos cneg l nothing n) nothing (evenly minusOne n) budget d) d (c-so (listed shrinking) (at-most-ten shrinking) n m l cpos cneg eps budget) (fitted-so (givenOf n TwoClass eps shrinking false) Signed m l (costsTo cpos cneg l nothing n) nothing (evenly minusOne n) budget d)
+module _ (tune : Tuning) (n : ℕ) (m l : List ℕ) (cpos cneg eps : Float) (shrinking : Bool) (budget : ℕ) (d : Lent) where
+  c-sized-so : numbered (allowed (tune .floor) shrinking) (fitCTunedSized tune n m l cpos cneg eps shrinking budget d .out) ≡ true
+  unfolding fitCTunedSized
+  c-sized-so = decided-so (allowed (tune .floor) shrinking) (ten-allowed (tune .floor) shrinking) _ (fitted (givenBy tune n TwoClass eps shrinking false) Signed m l (costsTo cpos cneg l nothing n) nothing (evenly minusOne n) budget d) d (floor-so (allowed (tune .floor) shrinking) (ten-allowed (tune .floor) shrinking) (tune .floor) (fourteen (tune .floor) (listed shrinking)) _ (c-so (allowed (tune .floor) shrinking) (ten-allowed (tune .floor) shrinking) n m l cpos cneg eps budget)) (fitted-so (tune .floor) (givenBy tune n TwoClass eps shrinking false) Signed m l (costsTo cpos cneg l nothing n) nothing (evenly minusOne n) budget d)
 
-  c-entry-so : numbered (listed shrinking) (fitCOf n m l cpos cneg eps shrinking budget d .out) ≡ true
-  unfolding fitCOf
-  c-entry-so = entered-so (listed shrinking) (at-most-ten shrinking) n (eqb (length l) n) m (fitCSized n m l cpos cneg eps shrinking budget d) d c-sized-so
-
-  -- without the sizes
-  pub c-sized-number : (number index : ℕ) → fitCSized n m l cpos cneg eps shrinking budget d .out ≡ Refused number index → (1 ≤ number) × (number ≤ cond shrinking 11 10)
-  c-sized-number = number-of shrinking _ c-sized-so
-
-  pub c-number : (number index : ℕ) → fitCOf n m l cpos cneg eps shrinking budget d .out ≡ Refused number index → (1 ≤ number) × (number ≤ cond shrinking 11 10)
-  c-number = number-of shrinking _ c-entry-so
-
-  pub c-accepts : getD (wordsOf (fitCOf n m l cpos cneg eps shrinking budget d .out)) 0 0 ≡ 0 → (x : Answer) × (fitCOf n m l cpos cneg eps shrinking budget d .out ≡ Accepted x)
-  c-accepts = accepted-by (listed shrinking) _ (none-listed shrinking) c-entry-so
-
-module _ (n : ℕ) (m l : List ℕ) (nu eps : Float) (shrinking : Bool) (budget : ℕ) (d : Lent) where
-  nu-sized-so : numbered (listed shrinking) (fitNuSized n m l nu eps shrinking budget d .out) ≡ true
-  unfolding fitNuSized
-  nu-sized-so = decided-so (listed shrinking) (at-most-ten shrinking) _ (fitted (givenOf n TwoClass eps shrinking true) Scaled m l (evenly one n) (sharedTo (half nu n) l nothing n) nothing budget d) d (nu-so (listed shrinking) (at-most-ten shrinking) n m l nu eps budget) (fitted-so (givenOf n TwoClass eps shrinking true) Scaled m l (evenly one n) (sharedTo (half nu n) l nothing n) nothing budget d)
-
-  nu-entry-so : numbered (listed shrinking) (fitNuOf n m l nu eps shrinking budget d .out) ≡ true
-  unfolding fitNuOf
-  nu-entry-so = entered-so (listed shrinking) (at-most-ten shrinking) n (eqb (length l) n) m (fitNuSized n m l nu eps shrinking budget d) d nu-sized-so
+  c-entry-so : numbered (allowed (tune .floor) shrinking) (fitCTuned tune n m l cpos cneg eps shrinking budget d .out) ≡ true
+  unfolding fitCTuned
+  c-entry-so = entered-so (allowed (tune .floor) shrinking) (ten-allowed (tune .floor) shrinking) n (eqb (length l) n) m (fitCTunedSized tune n m l cpos cneg eps shrinking budget d) d c-sized-so
 
   -- without the sizes
-  pub nu-sized-number : (number index : ℕ) → fitNuSized n m l nu eps shrinking budget d .out ≡ Refused number index → (1 ≤ number) × (number ≤ cond shrinking 11 10)
-  nu-sized-number = number-of shrinking _ nu-sized-so
+  pub c-sized-number : (number index : ℕ) → fitCTunedSized tune n m l cpos cneg eps shrinking budget d .out ≡ Refused number index → Numbered (tune .floor) shrinking number
+  c-sized-number = number-of (tune .floor) shrinking _ c-sized-so
 
-  pub nu-number : (number index : ℕ) → fitNuOf n m l nu eps shrinking budget d .out ≡ Refused number index → (1 ≤ number) × (number ≤ cond shrinking 11 10)
-  nu-number = number-of shrinking _ nu-entry-so
+  pub c-number : (number index : ℕ) → fitCTuned tune n m l cpos cneg eps shrinking budget d .out ≡ Refused number index → Numbered (tune .floor) shrinking number
+  c-number = number-of (tune .floor) shrinking _ c-entry-so
 
-  pub nu-accepts : getD (wordsOf (fitNuOf n m l nu eps shrinking budget d .out)) 0 0 ≡ 0 → (x : Answer) × (fitNuOf n m l nu eps shrinking budget d .out ≡ Accepted x)
-  nu-accepts = accepted-by (listed shrinking) _ (none-listed shrinking) nu-entry-so
+  pub c-accepts : getD (wordsOf (fitCTuned tune n m l cpos cneg eps shrinking budget d .out)) 0 0 ≡ 0 → (x : Answer) × (fitCTuned tune n m l cpos cneg eps shrinking budget d .out ≡ Accepted x)
+  c-accepts = accepted-by (allowed (tune .floor) shrinking) _ (none-listed (tune .floor) shrinking) c-entry-so
 
-module _ (n : ℕ) (m : List ℕ) (nu eps : Float) (shrinking : Bool) (budget : ℕ) (d : Lent) where
-  one-class-sized-so : numbered (listed shrinking) (fitOneClassSized n m nu eps shrinking budget d .out) ≡ true
-  unfolding fitOneClassSized
-  one-class-sized-so = decided-so (listed shrinking) (at-most-ten shrinking) _ (fitted (givenOf n OneClass eps shrinking false) Plain m (allPositive n) (evenly one n) (oneClassTo nu n nothing n) nothing budget d) d (one-class-so (listed shrinking) (at-most-ten shrinking) n m nu eps budget) (fitted-so (givenOf n OneClass eps shrinking false) Plain m (allPositive n) (evenly one n) (oneClassTo nu n nothing n) nothing budget d)
+module _ (tune : Tuning) (n : ℕ) (m l : List ℕ) (nu eps : Float) (shrinking : Bool) (budget : ℕ) (d : Lent) where
+  nu-sized-so : numbered (allowed (tune .floor) shrinking) (fitNuTunedSized tune n m l nu eps shrinking budget d .out) ≡ true
+  unfolding fitNuTunedSized
+  nu-sized-so = decided-so (allowed (tune .floor) shrinking) (ten-allowed (tune .floor) shrinking) _ (fitted (givenBy tune n TwoClass eps shrinking true) Scaled m l (evenly one n) (sharedTo (half nu n) l nothing n) nothing budget d) d (floor-so (allowed (tune .floor) shrinking) (ten-allowed (tune .floor) shrinking) (tune .floor) (fourteen (tune .floor) (listed shrinking)) _ (nu-so (allowed (tune .floor) shrinking) (ten-allowed (tune .floor) shrinking) n m l nu eps budget)) (fitted-so (tune .floor) (givenBy tune n TwoClass eps shrinking true) Scaled m l (evenly one n) (sharedTo (half nu n) l nothing n) nothing budget d)
 
-  one-class-entry-so : numbered (listed shrinking) (fitOneClassOf n m nu eps shrinking budget d .out) ≡ true
-  unfolding fitOneClassOf
-  one-class-entry-so = entered-so (listed shrinking) (at-most-ten shrinking) n true m (fitOneClassSized n m nu eps shrinking budget d) d one-class-sized-so
+  nu-entry-so : numbered (allowed (tune .floor) shrinking) (fitNuTuned tune n m l nu eps shrinking budget d .out) ≡ true
+  unfolding fitNuTuned
+  nu-entry-so = entered-so (allowed (tune .floor) shrinking) (ten-allowed (tune .floor) shrinking) n (eqb (length l) n) m (fitNuTunedSized tune n m l nu eps shrinking budget d) d nu-sized-so
 
   -- without the sizes
-  pub one-class-sized-number : (number index : ℕ) → fitOneClassSized n m nu eps shrinking budget d .out ≡ Refused number index → (1 ≤ number) × (number ≤ cond shrinking 11 10)
-  one-class-sized-number = number-of shrinking _ one-class-sized-so
+  pub nu-sized-number : (number index : ℕ) → fitNuTunedSized tune n m l nu eps shrinking budget d .out ≡ Refused number index → Numbered (tune .floor) shrinking number
+  nu-sized-number = number-of (tune .floor) shrinking _ nu-sized-so
 
-  pub one-class-number : (number index : ℕ) → fitOneClassOf n m nu eps shrinking budget d .out ≡ Refused number index → (1 ≤ number) × (number ≤ cond shrinking 11 10)
-  one-class-number = number-of shrinking _ one-class-entry-so
+  pub nu-number : (number index : ℕ) → fitNuTuned tune n m l nu eps shrinking budget d .out ≡ Refused number index → Numbered (tune .floor) shrinking number
+  nu-number = number-of (tune .floor) shrinking _ nu-entry-so
 
-  pub one-class-accepts : getD (wordsOf (fitOneClassOf n m nu eps shrinking budget d .out)) 0 0 ≡ 0 → (x : Answer) × (fitOneClassOf n m nu eps shrinking budget d .out ≡ Accepted x)
-  one-class-accepts = accepted-by (listed shrinking) _ (none-listed shrinking) one-class-entry-so
+  pub nu-accepts : getD (wordsOf (fitNuTuned tune n m l nu eps shrinking budget d .out)) 0 0 ≡ 0 → (x : Answer) × (fitNuTuned tune n m l nu eps shrinking budget d .out ≡ Accepted x)
+  nu-accepts = accepted-by (allowed (tune .floor) shrinking) _ (none-listed (tune .floor) shrinking) nu-entry-so
+
+module _ (tune : Tuning) (n : ℕ) (m : List ℕ) (nu eps : Float) (shrinking : Bool) (budget : ℕ) (d : Lent) where
+  one-class-sized-so : numbered (allowed (tune .floor) shrinking) (fitOneClassTunedSized tune n m nu eps shrinking budget d .out) ≡ true
+  unfolding fitOneClassTunedSized
+  one-class-sized-so = decided-so (allowed (tune .floor) shrinking) (ten-allowed (tune .floor) shrinking) _ (fitted (givenBy tune n OneClass eps shrinking false) Plain m (allPositive n) (evenly one n) (oneClassTo nu n nothing n) nothing budget d) d (floor-so (allowed (tune .floor) shrinking) (ten-allowed (tune .floor) shrinking) (tune .floor) (fourteen (tune .floor) (listed shrinking)) _ (one-class-so (allowed (tune .floor) shrinking) (ten-allowed (tune .floor) shrinking) n m nu eps budget)) (fitted-so (tune .floor) (givenBy tune n OneClass eps shrinking false) Plain m (allPositive n) (evenly one n) (oneClassTo nu n nothing n) nothing budget d)
+
+  one-class-entry-so : numbered (allowed (tune .floor) shrinking) (fitOneClassTuned tune n m nu eps shrinking budget d .out) ≡ true
+  unfolding fitOneClassTuned
+  one-class-entry-so = entered-so (allowed (tune .floor) shrinking) (ten-allowed (tune .floor) shrinking) n true m (fitOneClassTunedSized tune n m nu eps shrinking budget d) d one-class-sized-so
+
+  -- without the sizes
+  pub one-class-sized-number : (number index : ℕ) → fitOneClassTunedSized tune n m nu eps shrinking budget d .out ≡ Refused number index → Numbered (tune .floor) shrinking number
+  one-class-sized-number = number-of (tune .floor) shrinking _ one-class-sized-so
+
+  pub one-class-number : (number index : ℕ) → fitOneClassTuned tune n m nu eps shrinking budget d .out ≡ Refused number index → Numbered (tune .floor) shrinking number
+  one-class-number = number-of (tune .floor) shrinking _ one-class-entry-so
+
+  pub one-class-accepts : getD (wordsOf (fitOneClassTuned tune n m nu eps shrinking budget d .out)) 0 0 ≡ 0 → (x : Answer) × (fitOneClassTuned tune n m nu eps shrinking budget d .out ≡ Accepted x)
+  one-class-accepts = accepted-by (allowed (tune .floor) shrinking) _ (none-listed (tune .floor) shrinking) one-class-entry-so

@@ -34,6 +34,7 @@ use Rattle.state.specs.Lists.{Ready, State}
 use Rattle.trace.specs.Trace.{startOf}
 use Rattle.travel.specs.Home.{lastLeft, Told}
 use Rattle.travel.specs.Travel.{Fresh, Travelled}
+use Rattle.tuning.specs.declared.Tuning.{Tuning}
 use Rattle.promises.specs.Fit.{Fit, startFrom, after, weightAfter}
 use Rattle.promises.specs.Retired.{retiredFit, silentFit, afterOver, weightOver, pairOver, stepsOver, ownOver}
 
@@ -41,10 +42,10 @@ abbrev pub iterationsOf : Outcome → ℕ
 iterationsOf (Accepted z) = z .iterations
 iterationsOf (Refused number index) = 0
 
-module _ {n : ℕ} {r : List ℕ} {nurule : Bool} {eps : Float} {shrinking : Bool} {budget : ℕ} {d : Lent} {x : Input} {o : Whole}
-    (v : Taken n r nurule eps shrinking budget d x o) where
+module _ {tune : Tuning} {n : ℕ} {r : List ℕ} {nurule : Bool} {eps : Float} {shrinking : Bool} {budget : ℕ} {d : Lent} {x : Input} {o : Whole}
+    (v : Taken tune n r nurule eps shrinking budget d x o) where
   abbrev k : Fit
-  k = retiredFit n x r nurule eps
+  k = retiredFit tune n x r nurule eps
 
   abbrev m : List ℕ
   m = x .matrix
@@ -155,22 +156,22 @@ module _ {n : ℕ} {r : List ℕ} {nurule : Bool} {eps : Float} {shrinking : Boo
   -- ---- the run of the code: the rule's own, with the linear term NaN where the sample is retired. After each pass it has the same weights, and where a
   -- sample stands the same gradient
 
-  coded-twins : (t : ℕ) → Twins (standsIn r) (k .given) m m (trainedOver (standsIn r) (k .given) m (x .ceilings) t (startFrom (silentFit n x r nurule eps) m d)) (trainedOver (standsIn r) (k .given) m (x .ceilings) t start)
+  coded-twins : (t : ℕ) → Twins (standsIn r) (k .given) m m (trainedOver (standsIn r) (k .given) m (x .ceilings) t (startFrom (silentFit tune n x r nurule eps) m d)) (trainedOver (standsIn r) (k .given) m (x .ceilings) t start)
   coded-twins t =
-      trained-twins (standsIn r) (k .given) m m (x .ceilings) (x .ceilings) (λ i h z. refl) (startFrom (silentFit n x r nurule eps) m d) start
+      trained-twins (standsIn r) (k .given) m m (x .ceilings) (x .ceilings) (λ i h z. refl) (startFrom (silentFit tune n x r nurule eps) m d) start
       (ready-loaded n TwoClass m (x .labels) (x .ceilings) (kept r (x .weights) n) (silenced r (x .terms) n) (scratchOf d) (taken-usable v .matrix) (v .room .floats) (v .room .numbers) (v .room .bytes)) taken-ready
-      (silent-alike n r x nurule eps budget d (v .room .most) (v .room .floats) (v .room .numbers) (v .room .bytes) (v .room .crate) (v .room .home) (taken-usable v .matrix))
+      (silent-alike tune n r x nurule eps budget d (v .room .most) (v .room .floats) (v .room .numbers) (v .room .bytes) (v .room .crate) (v .room .home) (taken-usable v .matrix))
       refl t
 
-  coded-goes : (t : ℕ) → Goes (standsIn r) (k .given) m refl (x .ceilings) (after (silentFit n x r nurule eps) m d t) (trainedOver (standsIn r) (k .given) m (x .ceilings) t (startFrom (silentFit n x r nurule eps) m d))
+  coded-goes : (t : ℕ) → Goes (standsIn r) (k .given) m refl (x .ceilings) (after (silentFit tune n x r nurule eps) m d t) (trainedOver (standsIn r) (k .given) m (x .ceilings) t (startFrom (silentFit tune n x r nurule eps) m d))
   unfolding trainedOver
-  coded-goes t = going n r x nurule eps budget d (v .room .most) (v .room .floats) (v .room .numbers) (v .room .bytes) (v .room .crate) (v .room .home) (taken-usable v .matrix) t
+  coded-goes t = going tune n r x nurule eps budget d (v .room .most) (v .room .floats) (v .room .numbers) (v .room .bytes) (v .room .crate) (v .room .home) (taken-usable v .matrix) t
 
-  pub taken-coded : (t i : ℕ) → i < n → weightAfter (silentFit n x r nurule eps) m d t i ≡ weightOver (standsIn r) k m d t i
+  pub taken-coded : (t i : ℕ) → i < n → weightAfter (silentFit tune n x r nurule eps) m d t i ≡ weightOver (standsIn r) k m d t i
   unfolding trainedOver
   taken-coded t i h = ap (λ (s : State). alpha (problemOf (k .given) m) s i .value) (coded-goes t .kin .state) ∙ coded-twins t .alike .weights i h
 
   pub taken-coded-gradients : (t i : ℕ) → i < n → standsIn r i ≡ true
-      → gradient (problemOf (k .given) m) (after (silentFit n x r nurule eps) m d t .state) i ≡ gradient (problemOf (k .given) m) (afterOver (standsIn r) k m d t .state) i
+      → gradient (problemOf (k .given) m) (after (silentFit tune n x r nurule eps) m d t .state) i ≡ gradient (problemOf (k .given) m) (afterOver (standsIn r) k m d t .state) i
   unfolding trainedOver
   taken-coded-gradients t i h z = ap (λ (s : State). gradient (problemOf (k .given) m) s i) (coded-goes t .kin .state) ∙ coded-twins t .alike .gradients i h z

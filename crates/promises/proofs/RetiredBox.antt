@@ -13,8 +13,7 @@ use Rattle.answer.specs.Lent.{Lent, Whole}
 use Rattle.answer.specs.declared.Finish.the-variants.{Plain}
 use Rattle.boxed.specs.Delta.{deltaAt}
 use Rattle.boxed.specs.Range.{In}
-use Rattle.boxed.proofs.Step.{floor-divides}
-use Rattle.classification.specs.Entries.{givenOf, scratchOf, fitted}
+use Rattle.classification.specs.Entries.{givenBy, scratchOf, fitted}
 use Rattle.extreme.specs.declared.Choice.the-variants.{Pair}
 use Rattle.fits.specs.Starts.{nothing}
 use Rattle.fits.proofs.Loaded.{ready-loaded}
@@ -38,9 +37,10 @@ use Rattle.standing.proofs.Off.{Goes, chosen-silent, alike-self}
 use Rattle.standing.proofs.Runs.{Twins, chosen-alike, chosen-stands}
 use Rattle.state.specs.Lists.{Problem, State}
 use Rattle.update.specs.Pair.{floored, stepOf}
+use Rattle.tuning.specs.declared.Tuning.{Tuning}
 use Rattle.promises.specs.Fit.{Fit, startFrom, after}
 use Rattle.promises.specs.Retired.{retiredFit, afterOver, weightOver, pairOver, deltaOver, ownOver}
-use Rattle.promises.proofs.Box.{Common, entries-in, labels-in, ceiling-in, weight-in, served-box, served-chosen}
+use Rattle.promises.proofs.Box.{Common, floor-in, entries-in, labels-in, ceiling-in, weight-in, served-box, served-chosen}
 use Rattle.promises.proofs.Boxes.{nought-in}
 use Rattle.promises.proofs.Retired.{taken-left}
 use Rattle.promises.proofs.Travel.{Served}
@@ -55,14 +55,14 @@ delta-alike stands p q s t A floor i j I J hi hj =
         → stepOf (eqb a e) gi gj (floored floor (curved (eqb a e) di dj o)) ≡ stepOf (eqb a' e') gi' gj' (floored floor (curved (eqb a' e') di' dj' o'))
     by q1 q2 q3 q4 q5 q6 q7 = rw (q1, q2, q3, q4, q5, q6, q7)
 
-module _ {n : ℕ} {r : List ℕ} {nurule : Bool} {eps : Float} {shrinking : Bool} {budget : ℕ} {d : Lent} {x : Input} {o : Whole}
-    (v : Taken n r nurule eps shrinking budget d x o) (b : Float) (fit : T (fits binary64 b))
+module _ {tune : Tuning} {n : ℕ} {r : List ℕ} {nurule : Bool} {eps : Float} {shrinking : Bool} {budget : ℕ} {d : Lent} {x : Input} {o : Whole}
+    (v : Taken tune n r nurule eps shrinking budget d x o) (b : Float) (fit : T (fits binary64 b))
     (same : (i : ℕ) → i < n → standsIn r i ≡ true → getD (x .ceilings) i nan ≡ b) (fit-a : (i : ℕ) → i < n → standsIn r i ≡ true → T (fits binary64 (getD (x .weights) i nan))) where
   abbrev st : ℕ → Bool
   st = standsIn r
 
   abbrev k : Fit
-  k = retiredFit n x r nurule eps
+  k = retiredFit tune n x r nurule eps
 
   abbrev m : List ℕ
   m = x .matrix
@@ -83,7 +83,7 @@ module _ {n : ℕ} {r : List ℕ} {nurule : Bool} {eps : Float} {shrinking : Boo
   most = v .room .most
 
   fine : GeneralFine n m l c a p eps budget
-  fine = general-fine n m l c a p eps budget (retired-fine n m l c a p r eps shrinking budget (v .judged) .general)
+  fine = general-fine n m l c a p eps budget (retired-fine (tune .floor) n m l c a p r eps shrinking budget (v .judged) .general)
 
   -- ---- the same training with b for the ceilings of who is retired, and silent terms
 
@@ -91,7 +91,7 @@ module _ {n : ℕ} {r : List ℕ} {nurule : Bool} {eps : Float} {shrinking : Boo
   ceilings = keptTo r b c nothing n
 
   abbrev quiet : Fit
-  quiet = record { given = givenOf n TwoClass eps false nurule; how = Plain; labels = l; ceilings = ceilings; weights = kept r a n; terms = silenced r p n }
+  quiet = record { given = givenBy tune n TwoClass eps false nurule; how = Plain; labels = l; ceilings = ceilings; weights = kept r a n; terms = silenced r p n }
 
   ceiling-at : (i : ℕ) → i < n → getD ceilings i nan ≡ cond (st i) (getD c i nan) b
   ceiling-at i h = kept-at r b c nothing n i h most
@@ -128,7 +128,7 @@ module _ {n : ℕ} {r : List ℕ} {nurule : Bool} {eps : Float} {shrinking : Boo
   by-rule : (t : ℕ) → Goes st (k .given) m refl ceilings (after quiet m d t) (trainedOver st (k .given) m ceilings t (startFrom quiet m d))
   unfolding trainedOver
   by-rule t =
-      going n r lent-quiet nurule eps budget d most (v .room .floats) (v .room .numbers) (v .room .bytes) (v .room .crate) (v .room .home) (taken-usable v .matrix) t
+      going tune n r lent-quiet nurule eps budget d most (v .room .floats) (v .room .numbers) (v .room .bytes) (v .room .crate) (v .room .home) (taken-usable v .matrix) t
 
   module _ (some : ℕ) (below : some < n) (up : st some ≡ true) where
     good-b : isCeiling b ≡ true
@@ -158,7 +158,7 @@ module _ {n : ℕ} {r : List ℕ} {nurule : Bool} {eps : Float} {shrinking : Boo
       weights = start-in;
       entries = entries-in n m (fine .matrix);
       labels = labels-in n l (fine .labels);
-      floor = floor-divides;
+      floor = floor-in (tune .floor) (retired-fine (tune .floor) n m l c a p r eps shrinking budget (v .judged) .floor-good);
     }
 
   -- after t passes, of a sample that stands

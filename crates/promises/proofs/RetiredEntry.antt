@@ -17,21 +17,22 @@ use Rattle.retired.specs.Entry.{standsIn, kept}
 use Rattle.retired.proofs.Independent.{Taken, retired-taken}
 use Rattle.rounding.specs.Units.{NotNan}
 use Rattle.travel.specs.Travel.{Travelled}
+use Rattle.tuning.specs.declared.Tuning.{Tuning}
 use Rattle.promises.specs.Fit.{Fit, weightAfter}
 use Rattle.promises.specs.Retired.{retiredFit, silentFit, afterOver, weightOver, pairOver, deltaOver, stepsOver, ownOver}
 use Rattle.promises.proofs.Retired.{taken-alike, taken-home, taken-reads, taken-travels, taken-pairs, taken-iterations, taken-coded}
 use Rattle.promises.proofs.RetiredBox.{taken-box, taken-no-nan, taken-home-box}
 
-module _ (x : Input) (n : ℕ) (r : List ℕ) (nurule : Bool) (eps : Float) (shrinking : Bool) (budget : ℕ) (d : Lent) (z : Answer)
-    (e : retiredFor x n r nurule eps shrinking budget d .out ≡ Accepted z) where
+module _ (tune : Tuning) (x : Input) (n : ℕ) (r : List ℕ) (nurule : Bool) (eps : Float) (shrinking : Bool) (budget : ℕ) (d : Lent) (z : Answer)
+    (e : retiredFor tune x n r nurule eps shrinking budget d .out ≡ Accepted z) where
   abbrev o : Whole
-  o = retiredFor x n r nurule eps shrinking budget d
+  o = retiredFor tune x n r nurule eps shrinking budget d
 
   abbrev k : Fit
-  k = retiredFit n x r nurule eps
+  k = retiredFit tune n x r nurule eps
 
-  v : Taken n r nurule eps shrinking budget d x o
-  v = retired-taken n r nurule eps shrinking budget d x z e
+  v : Taken tune n r nurule eps shrinking budget d x o
+  v = retired-taken tune n r nurule eps shrinking budget d x z e
 
   -- what home answers for sample s
   pub retired-home : (s : ℕ) → s < n → getD (o .left .home) s nan ≡ ownOver (standsIn r) k (x .matrix) d budget s
@@ -58,7 +59,7 @@ module _ (x : Input) (n : ℕ) (r : List ℕ) (nurule : Bool) (eps : Float) (shr
   retired-iterations = taken-iterations v z e
 
   -- the code's run has the same weights after each pass
-  pub retired-coded : (t i : ℕ) → i < n → weightAfter (silentFit n x r nurule eps) (x .matrix) d t i ≡ weightOver (standsIn r) k (x .matrix) d t i
+  pub retired-coded : (t i : ℕ) → i < n → weightAfter (silentFit tune n x r nurule eps) (x .matrix) d t i ≡ weightOver (standsIn r) k (x .matrix) d t i
   retired-coded = taken-coded v
 
   -- where all that stand have the ceiling b

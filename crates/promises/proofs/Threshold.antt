@@ -17,10 +17,9 @@ use Rattle.answer.specs.declared.Finish.{Finish}
 use Rattle.answer.specs.declared.Outcome.{Outcome}
 use Rattle.answer.specs.declared.Outcome.the-variants.{Accepted, Refused}
 use Rattle.boxed.specs.Range.{Entry, Divides}
-use Rattle.boxed.proofs.Step.{floor-divides}
 use Rattle.boxrun.proofs.Owned.{Owned, owned-started, owned-updated, trained-owned}
 use Rattle.boxrun.proofs.Quiet.{stop-quiet}
-use Rattle.classification.specs.Entries.{fitted, generalOf, fitCOf, fitNuOf, fitOneClassOf}
+use Rattle.classification.specs.Entries.{fitted, generalTuned, fitCTuned, fitNuTuned, fitOneClassTuned}
 use Rattle.classification.proofs.Accepts.{refused-apart}
 use Rattle.classification.proofs.Still.{trained-still}
 use Rattle.extreme.specs.Rule.{everybody}
@@ -40,11 +39,12 @@ use Rattle.trace.specs.Rule.{NoPair}
 use Rattle.trace.specs.Trace.{startOf}
 use Rattle.trace.proofs.Rule.{trained-stops, trained-none, trained-done}
 use Rattle.wire.specs.Wire.{floatAt}
+use Rattle.tuning.specs.declared.Tuning.{Tuning}
 use Rattle.promises.specs.Fit.{Fit, generalFit, cFit, nuFit, oneClassFit, startFrom, runOf}
 use Rattle.promises.specs.Retired.{retiredFit, afterOver}
 use Rattle.promises.specs.Threshold.{Threshold, ThresholdOver}
-use Rattle.promises.proofs.Box.{entries-in}
-use Rattle.promises.proofs.Entries.{general-judged, general-served, c-judged, c-served, nu-judged, nu-served, one-class-judged, one-class-served}
+use Rattle.promises.proofs.Box.{floor-in, entries-in}
+use Rattle.promises.proofs.Entries.{general-judged, general-floored, general-served, c-judged, c-floored, c-served, nu-judged, nu-floored, nu-served, one-class-judged, one-class-floored, one-class-served}
 use Rattle.promises.proofs.Retired.{taken-ready}
 use Rattle.promises.proofs.Travel.{Served, ready-start}
 
@@ -107,36 +107,36 @@ module _ {k : Fit} {m : List ℕ} {budget : ℕ} {d : Lent} {o : Whole} (v : Ser
 
 -- ---- each entry
 
-module _ (n : ℕ) (m l : List ℕ) (c a p : List Float) (nurule : Bool) (eps : Float) (shrinking : Bool) (budget : ℕ) (d : Lent) (x : Answer) (e : generalOf n m l c a p nurule eps shrinking budget d .out ≡ Accepted x) where
-  pub general-threshold : x .«exit_reason» ≡ ReachedThreshold → Threshold (generalFit n l c a p nurule eps shrinking) m d budget
+module _ (tune : Tuning) (n : ℕ) (m l : List ℕ) (c a p : List Float) (nurule : Bool) (eps : Float) (shrinking : Bool) (budget : ℕ) (d : Lent) (x : Answer) (e : generalTuned tune n m l c a p nurule eps shrinking budget d .out ≡ Accepted x) where
+  pub general-threshold : x .«exit_reason» ≡ ReachedThreshold → Threshold (generalFit tune n l c a p nurule eps shrinking) m d budget
   general-threshold =
-      served-threshold (general-served n m l c a p nurule eps shrinking budget d x e)
-      (entries-in n m (general-fine n m l c a p eps budget (general-judged n m l c a p nurule eps shrinking budget d x e) .matrix)) floor-divides x e
+      served-threshold (general-served tune n m l c a p nurule eps shrinking budget d x e)
+      (entries-in n m (general-fine n m l c a p eps budget (general-judged tune n m l c a p nurule eps shrinking budget d x e) .matrix)) (floor-in (tune .floor) (general-floored tune n m l c a p nurule eps shrinking budget d x e)) x e
 
-module _ (n : ℕ) (m l : List ℕ) (cpos cneg eps : Float) (shrinking : Bool) (budget : ℕ) (d : Lent) (x : Answer) (e : fitCOf n m l cpos cneg eps shrinking budget d .out ≡ Accepted x) where
-  pub c-threshold : x .«exit_reason» ≡ ReachedThreshold → Threshold (cFit n l cpos cneg eps shrinking) m d budget
+module _ (tune : Tuning) (n : ℕ) (m l : List ℕ) (cpos cneg eps : Float) (shrinking : Bool) (budget : ℕ) (d : Lent) (x : Answer) (e : fitCTuned tune n m l cpos cneg eps shrinking budget d .out ≡ Accepted x) where
+  pub c-threshold : x .«exit_reason» ≡ ReachedThreshold → Threshold (cFit tune n l cpos cneg eps shrinking) m d budget
   c-threshold =
-      served-threshold (c-served n m l cpos cneg eps shrinking budget d x e)
-      (entries-in n m (c-fine n m l cpos cneg eps budget (c-judged n m l cpos cneg eps shrinking budget d x e) .matrix)) floor-divides x e
+      served-threshold (c-served tune n m l cpos cneg eps shrinking budget d x e)
+      (entries-in n m (c-fine n m l cpos cneg eps budget (c-judged tune n m l cpos cneg eps shrinking budget d x e) .matrix)) (floor-in (tune .floor) (c-floored tune n m l cpos cneg eps shrinking budget d x e)) x e
 
-module _ (n : ℕ) (m l : List ℕ) (nu eps : Float) (shrinking : Bool) (budget : ℕ) (d : Lent) (x : Answer) (e : fitNuOf n m l nu eps shrinking budget d .out ≡ Accepted x) where
-  pub nu-threshold : x .«exit_reason» ≡ ReachedThreshold → Threshold (nuFit n l nu eps shrinking) m d budget
+module _ (tune : Tuning) (n : ℕ) (m l : List ℕ) (nu eps : Float) (shrinking : Bool) (budget : ℕ) (d : Lent) (x : Answer) (e : fitNuTuned tune n m l nu eps shrinking budget d .out ≡ Accepted x) where
+  pub nu-threshold : x .«exit_reason» ≡ ReachedThreshold → Threshold (nuFit tune n l nu eps shrinking) m d budget
   nu-threshold =
-      served-threshold (nu-served n m l nu eps shrinking budget d x e)
-      (entries-in n m (nu-fine n m l nu eps budget (nu-judged n m l nu eps shrinking budget d x e) .matrix)) floor-divides x e
+      served-threshold (nu-served tune n m l nu eps shrinking budget d x e)
+      (entries-in n m (nu-fine n m l nu eps budget (nu-judged tune n m l nu eps shrinking budget d x e) .matrix)) (floor-in (tune .floor) (nu-floored tune n m l nu eps shrinking budget d x e)) x e
 
-module _ (n : ℕ) (m : List ℕ) (nu eps : Float) (shrinking : Bool) (budget : ℕ) (d : Lent) (x : Answer) (e : fitOneClassOf n m nu eps shrinking budget d .out ≡ Accepted x) where
-  pub one-class-threshold : x .«exit_reason» ≡ ReachedThreshold → Threshold (oneClassFit n nu eps shrinking) m d budget
+module _ (tune : Tuning) (n : ℕ) (m : List ℕ) (nu eps : Float) (shrinking : Bool) (budget : ℕ) (d : Lent) (x : Answer) (e : fitOneClassTuned tune n m nu eps shrinking budget d .out ≡ Accepted x) where
+  pub one-class-threshold : x .«exit_reason» ≡ ReachedThreshold → Threshold (oneClassFit tune n nu eps shrinking) m d budget
   one-class-threshold =
-      served-threshold (one-class-served n m nu eps shrinking budget d x e)
-      (entries-in n m (one-class-fine n m nu eps budget (one-class-judged n m nu eps shrinking budget d x e) .matrix)) floor-divides x e
+      served-threshold (one-class-served tune n m nu eps shrinking budget d x e)
+      (entries-in n m (one-class-fine n m nu eps budget (one-class-judged tune n m nu eps shrinking budget d x e) .matrix)) (floor-in (tune .floor) (one-class-floored tune n m nu eps shrinking budget d x e)) x e
 
 -- ---- with retired samples
 
-module _ {n : ℕ} {r : List ℕ} {nurule : Bool} {eps : Float} {shrinking : Bool} {budget : ℕ} {d : Lent} {y : Input} {o : Whole} (v : Taken n r nurule eps shrinking budget d y o)
+module _ {tune : Tuning} {n : ℕ} {r : List ℕ} {nurule : Bool} {eps : Float} {shrinking : Bool} {budget : ℕ} {d : Lent} {y : Input} {o : Whole} (v : Taken tune n r nurule eps shrinking budget d y o)
     (x : Answer) (e : o .out ≡ Accepted x) (h : x .«exit_reason» ≡ ReachedThreshold) where
   abbrev k : Fit
-  k = retiredFit n y r nurule eps
+  k = retiredFit tune n y r nurule eps
 
   abbrev m : List ℕ
   m = y .matrix
@@ -166,11 +166,11 @@ module _ {n : ℕ} {r : List ℕ} {nurule : Bool} {eps : Float} {shrinking : Boo
   taken-threshold = record {
     stop = stop;
     quiet = stop-quiet (standsIn r) (k .given) m (last .state) n (omega arith)
-        (entries-in n m (general-fine n m (y .labels) (y .ceilings) (y .weights) (y .terms) eps budget (retired-fine n m (y .labels) (y .ceilings) (y .weights) (y .terms) r eps shrinking budget (v .judged) .general) .matrix))
-        floor-divides owned stop;
+        (entries-in n m (general-fine n m (y .labels) (y .ceilings) (y .weights) (y .terms) eps budget (retired-fine (tune .floor) n m (y .labels) (y .ceilings) (y .weights) (y .terms) r eps shrinking budget (v .judged) .general) .matrix))
+        (floor-in (tune .floor) (retired-fine (tune .floor) n m (y .labels) (y .ceilings) (y .weights) (y .terms) r eps shrinking budget (v .judged) .floor-good)) owned stop;
   }
 
-module _ (y : Input) (n : ℕ) (r : List ℕ) (nurule : Bool) (eps : Float) (shrinking : Bool) (budget : ℕ) (d : Lent) (x : Answer)
-    (e : retiredFor y n r nurule eps shrinking budget d .out ≡ Accepted x) where
-  pub retired-threshold : x .«exit_reason» ≡ ReachedThreshold → ThresholdOver (standsIn r) (retiredFit n y r nurule eps) (y .matrix) d budget
-  retired-threshold = taken-threshold (retired-taken n r nurule eps shrinking budget d y x e) x e
+module _ (tune : Tuning) (y : Input) (n : ℕ) (r : List ℕ) (nurule : Bool) (eps : Float) (shrinking : Bool) (budget : ℕ) (d : Lent) (x : Answer)
+    (e : retiredFor tune y n r nurule eps shrinking budget d .out ≡ Accepted x) where
+  pub retired-threshold : x .«exit_reason» ≡ ReachedThreshold → ThresholdOver (standsIn r) (retiredFit tune n y r nurule eps) (y .matrix) d budget
+  retired-threshold = taken-threshold (retired-taken tune n r nurule eps shrinking budget d y x e) x e

@@ -38,6 +38,7 @@ use Rattle.trace.proofs.Trace.{runs-more, traced-more}
 use Rattle.update.specs.Update.{pairAt, updatedState}
 use Rattle.update.specs.declared.Pair as Update
 use Rattle.update.proofs.Left.{alpha-i, alpha-j, alpha-other, gradient-active}
+use Rattle.tuning.specs.Tuning.{plainTuning}
 use Rattle.promises.specs.Fit.{Fit, generalFit, cFit, nuFit, oneClassFit, startFrom, after, weightAfter, pairAfter, stepsTaken, rOf}
 use Rattle.promises.specs.Trail.{foundAt, laterSteps, gradientAfter, labelLent, entryLent, foundAfter, StepsWith, ShownStep, FoundStep, Trailed, noStep}
 use Rattle.promises.proofs.Alike.{home-own}
@@ -224,36 +225,36 @@ module _ {k : Fit} {m : List ℕ} {budget : ℕ} {d : Lent} {o : Whole} (v : Ser
 -- ---- each entry: the finder's steps, and with shrinking off the trail
 
 pub general-found : (n : ℕ) (m l : List ℕ) (c a p : List Float) (nurule : Bool) (eps : Float) (shrinking : Bool) (budget : ℕ) (d : Lent) (x : Answer)
-    → generalOf n m l c a p nurule eps shrinking budget d .out ≡ Accepted x → (q : ℕ) → q < x .iterations → FoundStep (generalFit n l c a p nurule eps shrinking) m d budget q
+    → generalOf n m l c a p nurule eps shrinking budget d .out ≡ Accepted x → (q : ℕ) → q < x .iterations → FoundStep (generalFit plainTuning n l c a p nurule eps shrinking) m d budget q
 general-found n m l c a p nurule eps shrinking budget d x e q h =
-    let v = general-served n m l c a p nurule eps shrinking budget d x e in served-found v refl q (rw (served-iterations v x e .0) at h)
+    let v = general-served plainTuning n m l c a p nurule eps shrinking budget d x e in served-found v refl q (rw (served-iterations v x e .0) at h)
 
 pub c-found : (n : ℕ) (m l : List ℕ) (cpos cneg eps : Float) (shrinking : Bool) (budget : ℕ) (d : Lent) (x : Answer) → fitCOf n m l cpos cneg eps shrinking budget d .out ≡ Accepted x
-    → (q : ℕ) → q < x .iterations → FoundStep (cFit n l cpos cneg eps shrinking) m d budget q
+    → (q : ℕ) → q < x .iterations → FoundStep (cFit plainTuning n l cpos cneg eps shrinking) m d budget q
 c-found n m l cpos cneg eps shrinking budget d x e q h =
-    let v = c-served n m l cpos cneg eps shrinking budget d x e in served-found v refl q (rw (served-iterations v x e .0) at h)
+    let v = c-served plainTuning n m l cpos cneg eps shrinking budget d x e in served-found v refl q (rw (served-iterations v x e .0) at h)
 
 pub nu-found : (n : ℕ) (m l : List ℕ) (nu eps : Float) (shrinking : Bool) (budget : ℕ) (d : Lent) (x : Answer) → fitNuOf n m l nu eps shrinking budget d .out ≡ Accepted x
-    → (q : ℕ) → q < x .iterations → FoundStep (nuFit n l nu eps shrinking) m d budget q
-nu-found n m l nu eps shrinking budget d x e q h = let v = nu-served n m l nu eps shrinking budget d x e in served-found v refl q (rw (served-iterations v x e .0) at h)
+    → (q : ℕ) → q < x .iterations → FoundStep (nuFit plainTuning n l nu eps shrinking) m d budget q
+nu-found n m l nu eps shrinking budget d x e q h = let v = nu-served plainTuning n m l nu eps shrinking budget d x e in served-found v refl q (rw (served-iterations v x e .0) at h)
 
 pub one-class-found : (n : ℕ) (m : List ℕ) (nu eps : Float) (shrinking : Bool) (budget : ℕ) (d : Lent) (x : Answer) → fitOneClassOf n m nu eps shrinking budget d .out ≡ Accepted x
-    → (q : ℕ) → q < x .iterations → FoundStep (oneClassFit n nu eps shrinking) m d budget q
+    → (q : ℕ) → q < x .iterations → FoundStep (oneClassFit plainTuning n nu eps shrinking) m d budget q
 one-class-found n m nu eps shrinking budget d x e q h =
-    let v = one-class-served n m nu eps shrinking budget d x e in served-found v refl q (rw (served-iterations v x e .0) at h)
+    let v = one-class-served plainTuning n m nu eps shrinking budget d x e in served-found v refl q (rw (served-iterations v x e .0) at h)
 
 pub general-trail : (n : ℕ) (m l : List ℕ) (c a p : List Float) (nurule : Bool) (eps : Float) (budget : ℕ) (d : Lent) (x : Answer) → generalOf n m l c a p nurule eps false budget d .out ≡ Accepted x
-    → Trailed (generalFit n l c a p nurule eps false) m d budget (x .iterations) (generalOf n m l c a p nurule eps false budget d .left .home)
-general-trail n m l c a p nurule eps budget d x e = served-trail (general-served n m l c a p nurule eps false budget d x e) refl refl x e
+    → Trailed (generalFit plainTuning n l c a p nurule eps false) m d budget (x .iterations) (generalOf n m l c a p nurule eps false budget d .left .home)
+general-trail n m l c a p nurule eps budget d x e = served-trail (general-served plainTuning n m l c a p nurule eps false budget d x e) refl refl x e
 
 pub c-trail : (n : ℕ) (m l : List ℕ) (cpos cneg eps : Float) (budget : ℕ) (d : Lent) (x : Answer) → fitCOf n m l cpos cneg eps false budget d .out ≡ Accepted x
-    → Trailed (cFit n l cpos cneg eps false) m d budget (x .iterations) (fitCOf n m l cpos cneg eps false budget d .left .home)
-c-trail n m l cpos cneg eps budget d x e = served-trail (c-served n m l cpos cneg eps false budget d x e) refl refl x e
+    → Trailed (cFit plainTuning n l cpos cneg eps false) m d budget (x .iterations) (fitCOf n m l cpos cneg eps false budget d .left .home)
+c-trail n m l cpos cneg eps budget d x e = served-trail (c-served plainTuning n m l cpos cneg eps false budget d x e) refl refl x e
 
 pub nu-trail : (n : ℕ) (m l : List ℕ) (nu eps : Float) (budget : ℕ) (d : Lent) (x : Answer) → fitNuOf n m l nu eps false budget d .out ≡ Accepted x
-    → Trailed (nuFit n l nu eps false) m d budget (x .iterations) (fitNuOf n m l nu eps false budget d .left .home)
-nu-trail n m l nu eps budget d x e = served-trail (nu-served n m l nu eps false budget d x e) refl refl x e
+    → Trailed (nuFit plainTuning n l nu eps false) m d budget (x .iterations) (fitNuOf n m l nu eps false budget d .left .home)
+nu-trail n m l nu eps budget d x e = served-trail (nu-served plainTuning n m l nu eps false budget d x e) refl refl x e
 
 pub one-class-trail : (n : ℕ) (m : List ℕ) (nu eps : Float) (budget : ℕ) (d : Lent) (x : Answer) → fitOneClassOf n m nu eps false budget d .out ≡ Accepted x
-    → Trailed (oneClassFit n nu eps false) m d budget (x .iterations) (fitOneClassOf n m nu eps false budget d .left .home)
-one-class-trail n m nu eps budget d x e = served-trail (one-class-served n m nu eps false budget d x e) refl refl x e
+    → Trailed (oneClassFit plainTuning n nu eps false) m d budget (x .iterations) (fitOneClassOf n m nu eps false budget d .left .home)
+one-class-trail n m nu eps budget d x e = served-trail (one-class-served plainTuning n m nu eps false budget d x e) refl refl x e

@@ -12,7 +12,7 @@ use Rattle.answer.specs.Solved.{levelAt}
 use Rattle.answer.specs.declared.Finish.{Finish}
 use Rattle.answer.specs.declared.Finish.the-variants.{Plain, Signed, Scaled}
 use Rattle.boxed.specs.Delta.{deltaAt}
-use Rattle.classification.specs.Entries.{givenOf, scratchOf}
+use Rattle.classification.specs.Entries.{givenBy, scratchOf}
 use Rattle.extreme.specs.declared.Choice.{Choice}
 use Rattle.fits.specs.Load.{loaded}
 use Rattle.fits.specs.Starts.{nothing, evenly, allPositive, costsTo, half, sharedTo, oneClassTo}
@@ -25,6 +25,7 @@ use Rattle.state.specs.Fields.{alpha}
 use Rattle.state.specs.Lists.{State}
 use Rattle.trace.specs.Trace.{Step, lookAt, pairFrom, startOf, traced}
 use Rattle.travel.specs.Home.{lastLeft}
+use Rattle.tuning.specs.declared.Tuning.{Tuning}
 
 pub record Fit : Type 0 where
   pub given : Given
@@ -34,21 +35,21 @@ pub record Fit : Type 0 where
   pub weights : List Float
   pub terms : List Float
 
-abbrev pub generalFit : ℕ → List ℕ → List Float → List Float → List Float → Bool → Float → Bool → Fit
-generalFit n l c a p nurule eps shrinking =
-    record { given = givenOf n TwoClass eps shrinking nurule; how = Plain; labels = l; ceilings = c; weights = a; terms = p }
+abbrev pub generalFit : Tuning → ℕ → List ℕ → List Float → List Float → List Float → Bool → Float → Bool → Fit
+generalFit t n l c a p nurule eps shrinking =
+    record { given = givenBy t n TwoClass eps shrinking nurule; how = Plain; labels = l; ceilings = c; weights = a; terms = p }
 
-abbrev pub cFit : ℕ → List ℕ → Float → Float → Float → Bool → Fit
-cFit n l cpos cneg eps shrinking =
-    record { given = givenOf n TwoClass eps shrinking false; how = Signed; labels = l; ceilings = costsTo cpos cneg l nothing n; weights = nothing; terms = evenly minusOne n }
+abbrev pub cFit : Tuning → ℕ → List ℕ → Float → Float → Float → Bool → Fit
+cFit t n l cpos cneg eps shrinking =
+    record { given = givenBy t n TwoClass eps shrinking false; how = Signed; labels = l; ceilings = costsTo cpos cneg l nothing n; weights = nothing; terms = evenly minusOne n }
 
-abbrev pub nuFit : ℕ → List ℕ → Float → Float → Bool → Fit
-nuFit n l nu eps shrinking =
-    record { given = givenOf n TwoClass eps shrinking true; how = Scaled; labels = l; ceilings = evenly one n; weights = sharedTo (half nu n) l nothing n; terms = nothing }
+abbrev pub nuFit : Tuning → ℕ → List ℕ → Float → Float → Bool → Fit
+nuFit t n l nu eps shrinking =
+    record { given = givenBy t n TwoClass eps shrinking true; how = Scaled; labels = l; ceilings = evenly one n; weights = sharedTo (half nu n) l nothing n; terms = nothing }
 
-abbrev pub oneClassFit : ℕ → Float → Float → Bool → Fit
-oneClassFit n nu eps shrinking =
-    record { given = givenOf n OneClass eps shrinking false; how = Plain; labels = allPositive n; ceilings = evenly one n; weights = oneClassTo nu n nothing n; terms = nothing }
+abbrev pub oneClassFit : Tuning → ℕ → Float → Float → Bool → Fit
+oneClassFit t n nu eps shrinking =
+    record { given = givenBy t n OneClass eps shrinking false; how = Plain; labels = allPositive n; ceilings = evenly one n; weights = oneClassTo nu n nothing n; terms = nothing }
 
 -- m is the matrix, d what is lent beside the inputs
 module _ (k : Fit) (m : List ℕ) (d : Lent) where

@@ -2,4 +2,5 @@ pub mod Fit
 pub mod Retired
 pub mod Threshold
 pub mod Leaves
+pub mod Numbers
 pub mod Trail

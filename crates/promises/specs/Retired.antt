@@ -7,7 +7,7 @@ use lib.ListN.{getD}
 use Rattle.answer.specs.Lent.{Lent}
 use Rattle.answer.specs.declared.Finish.the-variants.{Plain}
 use Rattle.boxed.specs.Delta.{deltaAt}
-use Rattle.classification.specs.Entries.{givenOf}
+use Rattle.classification.specs.Entries.{givenBy}
 use Rattle.extreme.specs.declared.Choice.{Choice}
 use Rattle.kernel.specs.declared.Kind.the-variants.{TwoClass}
 use Rattle.retired.specs.Silenced.{silenced}
@@ -18,17 +18,18 @@ use Rattle.standing.specs.Run.{chosenOver, runsOver, tracedOver}
 use Rattle.state.specs.Fields.{alpha}
 use Rattle.trace.specs.Trace.{Step, startOf}
 use Rattle.travel.specs.Home.{lastLeft}
+use Rattle.tuning.specs.declared.Tuning.{Tuning}
 use Rattle.promises.specs.Fit.{Fit, startFrom}
 
 -- the input x with the retired bytes r
-abbrev pub retiredFit : ℕ → Input → List ℕ → Bool → Float → Fit
-retiredFit n x r nurule eps =
-    record { given = givenOf n TwoClass eps false nurule; how = Plain; labels = x .labels; ceilings = x .ceilings; weights = kept r (x .weights) n; terms = kept r (x .terms) n }
+abbrev pub retiredFit : Tuning → ℕ → Input → List ℕ → Bool → Float → Fit
+retiredFit t n x r nurule eps =
+    record { given = givenBy t n TwoClass eps false nurule; how = Plain; labels = x .labels; ceilings = x .ceilings; weights = kept r (x .weights) n; terms = kept r (x .terms) n }
 
 -- what the code trains by the rule itself: the linear term of who is retired is NaN
-abbrev pub silentFit : ℕ → Input → List ℕ → Bool → Float → Fit
-silentFit n x r nurule eps =
-    record { given = givenOf n TwoClass eps false nurule; how = Plain; labels = x .labels; ceilings = x .ceilings; weights = kept r (x .weights) n; terms = silenced r (x .terms) n }
+abbrev pub silentFit : Tuning → ℕ → Input → List ℕ → Bool → Float → Fit
+silentFit t n x r nurule eps =
+    record { given = givenBy t n TwoClass eps false nurule; how = Plain; labels = x .labels; ceilings = x .ceilings; weights = kept r (x .weights) n; terms = silenced r (x .terms) n }
 
 -- m is the matrix, d what is lent beside the inputs
 module _ (stands : ℕ → Bool) (k : Fit) (m : List ℕ) (d : Lent) where

@@ -15,7 +15,7 @@ use Rattle.answer.specs.Lent.{Lent, lent, Whole, whole, cleared}
 use Rattle.answer.specs.Solved.{stuck, read, crateOf, homeOf, levelAt, settledBy, settledOf, closedWith}
 use Rattle.answer.specs.declared.Finish.the-variants.{Plain}
 use Rattle.answer.specs.declared.Outcome.the-variants.{Accepted}
-use Rattle.classification.specs.Entries.{givenOf, scratchOf}
+use Rattle.classification.specs.Entries.{givenBy, scratchOf}
 use Rattle.fits.specs.Load.{loadedFloats, loadedNumbers, loadedLabels, loaded}
 use Rattle.fits.specs.Starts.{nothing}
 use Rattle.fits.proofs.Loaded.{length-floats, length-numbers, length-labels, weight-loaded, linear-loaded, ready-loaded, sample-loaded}
@@ -43,6 +43,7 @@ use Rattle.start.specs.Start.{started}
 use Rattle.state.specs.Lists.{State, state, Ready}
 use Rattle.trace.specs.Trace.{startOf}
 use Rattle.trace.proofs.Rests.{same-started}
+use Rattle.tuning.specs.declared.Tuning.{Tuning}
 use Rattle.retired.specs.Coded.{withObj, solvedSilent, fittedSilent}
 use Rattle.retired.specs.Silenced.{silenced}
 use Rattle.retired.specs.Differ.{Input, DifferRetired}
@@ -138,10 +139,10 @@ labels-behind l y (suc k) j h = getD-set-other (loadedLabels l y k) k j _ 0 (λ 
 
 -- ---- the whole
 
-module _ (n : ℕ) (r : List ℕ) (x : Input) (nurule : Bool) (eps : Float) (budget : ℕ) (d : Lent) (most : n ≤ 512) (lf : 7 * n ≤ length (d .floats)) (lu : 2 * n ≤ length (d .numbers))
+module _ (tune : Tuning) (n : ℕ) (r : List ℕ) (x : Input) (nurule : Bool) (eps : Float) (budget : ℕ) (d : Lent) (most : n ≤ 512) (lf : 7 * n ≤ length (d .floats)) (lu : 2 * n ≤ length (d .numbers))
     (ly : n ≤ length (d .bytes)) (lc : n ≤ length (d .crate)) (lh : n ≤ length (d .home)) (M : Matrix n (x .matrix)) where
   abbrev g : Given
-  g = givenOf n TwoClass eps false nurule
+  g = givenBy tune n TwoClass eps false nurule
 
   abbrev st : ℕ → Bool
   st = standsIn r

@@ -20,7 +20,7 @@ use Rattle.answer.specs.Answer.{supportOf, ratioOf, reasonOf}
 use Rattle.answer.specs.Lent.{Lent, Whole, whole, cleared}
 use Rattle.answer.specs.declared.Answer.{Answer}
 use Rattle.answer.specs.declared.Outcome.the-variants.{Accepted}
-use Rattle.classification.specs.Entries.{givenOf, scratchOf, sizesOf}
+use Rattle.classification.specs.Entries.{givenBy, scratchOf, sizesOf}
 use Rattle.classification.proofs.Laws.{Usable}
 use Rattle.judge.specs.Judge.{retiredJudged}
 use Rattle.judge.specs.Sizes.{Room}
@@ -40,9 +40,10 @@ use Rattle.fits.proofs.Loaded.{sample-loaded}
 use Rattle.standing.proofs.Alike.{LentAlike}
 use Rattle.state.specs.Fields.{row}
 use Rattle.state.specs.Lists.{problem, State}
+use Rattle.tuning.specs.declared.Tuning.{Tuning}
 use Rattle.retired.proofs.Laws.{usable-retired}
 use Rattle.retired.specs.Differ.{Input, retiredFor, DifferRetired}
-use Rattle.retired.specs.Entry.{standsIn, keptTo, kept, answeredOver, fittedOver, retiredSized, retiredOf}
+use Rattle.retired.specs.Entry.{standsIn, keptTo, kept, answeredOver, fittedOver, retiredTunedSized, retiredTuned}
 
 -- ---- what is kept of a list
 
@@ -165,11 +166,11 @@ module _ (stands : ℕ → Bool) (g : Given) (budget : ℕ) (d : Lent) where
 
 -- ---- the theorem
 
-module _ (n : ℕ) (r : List ℕ) (x y : Input) (D : DifferRetired n r x y) (nurule : Bool) (eps : Float) (budget : ℕ) (d : Lent)
+module _ (tune : Tuning) (n : ℕ) (r : List ℕ) (x y : Input) (D : DifferRetired n r x y) (nurule : Bool) (eps : Float) (budget : ℕ) (d : Lent)
     (most : n ≤ 512) (lf : 7 * n ≤ length (d .floats)) (lu : 2 * n ≤ length (d .numbers)) (ly : n ≤ length (d .bytes))
     (M : Matrix n (x .matrix)) (M' : Matrix n (y .matrix)) where
   abbrev g : Given
-  g = givenOf n TwoClass eps false nurule
+  g = givenBy tune n TwoClass eps false nurule
 
   abbrev fitOf : Input → Whole
   fitOf z = fittedOver (standsIn r) g (z .matrix) (z .labels) (z .ceilings) (kept r (z .weights) n) (kept r (z .terms) n) budget d
@@ -197,38 +198,38 @@ module _ (n : ℕ) (r : List ℕ) (x y : Input) (D : DifferRetired n r x y) (nur
       (same-objective (standsIn r) g (x .matrix) (y .matrix) (x .ceilings) (y .ceilings) (D .ceilings) s t R R' A refl budget)
 
 -- the outcome o is that of the fit over what stands, of an input that was judged fine, over lists that suffice
-pub record Taken (n : ℕ) (r : List ℕ) (nurule : Bool) (eps : Float) (shrinking : Bool) (budget : ℕ) (d : Lent) (x : Input) (o : Whole) : Type 0 where
+pub record Taken (tune : Tuning) (n : ℕ) (r : List ℕ) (nurule : Bool) (eps : Float) (shrinking : Bool) (budget : ℕ) (d : Lent) (x : Input) (o : Whole) : Type 0 where
   pub room : Room n (length (x .matrix)) (length (d .crate)) (length (d .home)) (length (d .floats)) (length (d .numbers)) (length (d .bytes))
-  pub judged : retiredJudged n (x .matrix) (x .labels) (x .ceilings) (x .weights) (x .terms) r eps shrinking budget ≡ Fine
-  pub same : o ≡ fittedOver (standsIn r) (givenOf n TwoClass eps false nurule) (x .matrix) (x .labels) (x .ceilings) (kept r (x .weights) n) (kept r (x .terms) n) budget d
+  pub judged : retiredJudged (tune .floor) n (x .matrix) (x .labels) (x .ceilings) (x .weights) (x .terms) r eps shrinking budget ≡ Fine
+  pub same : o ≡ fittedOver (standsIn r) (givenBy tune n TwoClass eps false nurule) (x .matrix) (x .labels) (x .ceilings) (kept r (x .weights) n) (kept r (x .terms) n) budget d
 
-module _ {n : ℕ} {r : List ℕ} {nurule : Bool} {eps : Float} {shrinking : Bool} {budget : ℕ} {d : Lent} where
-  pub taken-usable : {x : Input} {o : Whole} → Taken n r nurule eps shrinking budget d x o → Usable n (x .matrix) budget
-  taken-usable {x = x} v = usable-retired n (x .matrix) budget (v .room .most) (v .room .matrix) (x .labels) (x .ceilings) (x .weights) (x .terms) r eps shrinking (v .judged)
+module _ {tune : Tuning} {n : ℕ} {r : List ℕ} {nurule : Bool} {eps : Float} {shrinking : Bool} {budget : ℕ} {d : Lent} where
+  pub taken-usable : {x : Input} {o : Whole} → Taken tune n r nurule eps shrinking budget d x o → Usable n (x .matrix) budget
+  taken-usable {x = x} v = usable-retired (tune .floor) n (x .matrix) budget (v .room .most) (v .room .matrix) (x .labels) (x .ceilings) (x .weights) (x .terms) r eps shrinking (v .judged)
 
   -- two of them that differ in what is retired only
-  pub taken-independent : {x y : Input} {o o' : Whole} → DifferRetired n r x y → Taken n r nurule eps shrinking budget d x o → Taken n r nurule eps shrinking budget d y o' → o ≡ o'
+  pub taken-independent : {x y : Input} {o o' : Whole} → DifferRetired n r x y → Taken tune n r nurule eps shrinking budget d x o → Taken tune n r nurule eps shrinking budget d y o' → o ≡ o'
   taken-independent {x = x} {y = y} D v w =
       v .same
-      ∙ fitted-independent n r x y D nurule eps budget d (v .room .most) (v .room .floats) (v .room .numbers) (v .room .bytes) (taken-usable v .matrix) (taken-usable w .matrix)
+      ∙ fitted-independent tune n r x y D nurule eps budget d (v .room .most) (v .room .floats) (v .room .numbers) (v .room .bytes) (taken-usable v .matrix) (taken-usable w .matrix)
       ∙ sym (w .same)
 
-module _ (n : ℕ) (r : List ℕ) (nurule : Bool) (eps : Float) (shrinking : Bool) (budget : ℕ) (d : Lent) where
+module _ (tune : Tuning) (n : ℕ) (r : List ℕ) (nurule : Bool) (eps : Float) (shrinking : Bool) (budget : ℕ) (d : Lent) where
   abbrev sizedFor : Input → Whole
-  sizedFor x = retiredSized n (x .matrix) (x .labels) (x .ceilings) (x .weights) (x .terms) r nurule eps shrinking budget d
+  sizedFor x = retiredTunedSized tune n (x .matrix) (x .labels) (x .ceilings) (x .weights) (x .terms) r nurule eps shrinking budget d
 
   out-of : (z : Answer) (w v : Whole) → w ≡ v → w .out ≡ Accepted z → v .out ≡ Accepted z
   out-of z w v q h = rw q at h
 
   -- after the sizes
   pub sized-taken : (x : Input) → Room n (length (x .matrix)) (length (d .crate)) (length (d .home)) (length (d .floats)) (length (d .numbers)) (length (d .bytes))
-      → (z : Answer) → sizedFor x .out ≡ Accepted z → Taken n r nurule eps shrinking budget d x (sizedFor x)
-  unfolding retiredSized
-  sized-taken x room z e = let v = decided-in _ d z (retiredJudged n (x .matrix) (x .labels) (x .ceilings) (x .weights) (x .terms) r eps shrinking budget) e in record { room = room; judged = v .0; same = v .1 }
+      → (z : Answer) → sizedFor x .out ≡ Accepted z → Taken tune n r nurule eps shrinking budget d x (sizedFor x)
+  unfolding retiredTunedSized
+  sized-taken x room z e = let v = decided-in _ d z (retiredJudged (tune .floor) n (x .matrix) (x .labels) (x .ceilings) (x .weights) (x .terms) r eps shrinking budget) e in record { room = room; judged = v .0; same = v .1 }
 
   -- where the entry accepts
-  pub retired-taken : (x : Input) (z : Answer) → retiredFor x n r nurule eps shrinking budget d .out ≡ Accepted z → Taken n r nurule eps shrinking budget d x (retiredFor x n r nurule eps shrinking budget d)
-  unfolding retiredOf
+  pub retired-taken : (x : Input) (z : Answer) → retiredFor tune x n r nurule eps shrinking budget d .out ≡ Accepted z → Taken tune n r nurule eps shrinking budget d x (retiredFor tune x n r nurule eps shrinking budget d)
+  unfolding retiredTuned
   retired-taken x z e =
       let inputs = eqb (length (x .labels)) n && eqb (length (x .ceilings)) n && eqb (length (x .weights)) n && eqb (length (x .terms)) n && eqb (length r) n in
       let q = entered-in (sizedFor x) d z (sizesOf n inputs (x .matrix) d) e in
@@ -237,6 +238,6 @@ module _ (n : ℕ) (r : List ℕ) (nurule : Bool) (eps : Float) (shrinking : Boo
 
   -- two trainings that differ in what is retired only: where both are accepted, one answer, and the same lists
   pub retired-independent : (x y : Input) → DifferRetired n r x y → (z z' : Answer)
-      → retiredFor x n r nurule eps shrinking budget d .out ≡ Accepted z → retiredFor y n r nurule eps shrinking budget d .out ≡ Accepted z'
-      → retiredFor x n r nurule eps shrinking budget d ≡ retiredFor y n r nurule eps shrinking budget d
+      → retiredFor tune x n r nurule eps shrinking budget d .out ≡ Accepted z → retiredFor tune y n r nurule eps shrinking budget d .out ≡ Accepted z'
+      → retiredFor tune x n r nurule eps shrinking budget d ≡ retiredFor tune y n r nurule eps shrinking budget d
   retired-independent x y D z z' e e' = taken-independent D (retired-taken x z e) (retired-taken y z' e')

@@ -16,14 +16,14 @@ use Rattle.answer.specs.Solved.{stuck, settledBy, settledOf, closedWith, solved
 use Rattle.answer.specs.declared.Finish.the-variants.{Plain}
 use Rattle.answer.specs.declared.Outcome.{Outcome}
 use Rattle.answer.specs.declared.Outcome.the-variants.{Refused}
-use Rattle.classification.specs.Entries.{givenOf, scratchOf, fitted, decided, entered, sizesOf, generalSized, generalOf}
+use Rattle.classification.specs.Entries.{givenBy, scratchOf, fitted, decided, entered, sizesOf, generalTunedSized, generalTuned}
 use Rattle.classification.proofs.Laws.{usable-general}
 use Rattle.fits.specs.Load.{loadedFloats, loaded}
-use Rattle.judge.specs.Judge.{andThen, bytesGood, generalJudged, retiredJudged}
+use Rattle.judge.specs.Judge.{andThen, bytesGood, generalJudged, floorJudged, retiredJudged}
 use Rattle.judge.specs.Sizes.{Room}
 use Rattle.judge.specs.declared.Judged.{Judged}
 use Rattle.judge.specs.declared.Judged.the-variants.{Fine, Bad}
-use Rattle.judge.proofs.Accepted.{within-bytes}
+use Rattle.judge.proofs.Accepted.{floor-fine, within-bytes}
 use Rattle.judge.proofs.Lengths.{room-of}
 use Rattle.kernel.specs.Matrix.{Matrix}
 use Rattle.kernel.specs.declared.Kind.the-variants.{TwoClass}
@@ -32,10 +32,11 @@ use Rattle.solver.specs.End.{sumTo, objectiveOf, trained}
 use Rattle.solver.specs.Run.{Full}
 use Rattle.solver.specs.declared.Given.{Given}
 use Rattle.state.specs.Lists.{state}
+use Rattle.tuning.specs.declared.Tuning.{Tuning}
 use Rattle.retired.specs.Coded.{withObj, solvedSilent, fittedSilent}
 use Rattle.retired.specs.Silenced.{silenced}
 use Rattle.retired.specs.Differ.{Input}
-use Rattle.retired.specs.Entry.{standsIn, kept, fittedOver, retiredSized, retiredOf}
+use Rattle.retired.specs.Entry.{standsIn, kept, fittedOver, retiredTunedSized, retiredTuned}
 use Rattle.retired.proofs.Coded.{silenced-place, silent-is}
 use Rattle.retired.proofs.Independent.{kept-place}
 
@@ -71,10 +72,10 @@ module _ (g : Given) (r : List ℕ) (all : (k : ℕ) → k < g .n → standsIn r
       let x = settledOf g Plain l budget w (d .crate) (d .home) in
       ap (λ (o : Outcome). closedWith (g .n) (w .state) (read o (x .crate) (x .home))) (settled-all (stuck (w .run .status)) l budget w (d .crate) (d .home))
 
-module _ (n : ℕ) (r : List ℕ) (all : (k : ℕ) → k < n → standsIn r k ≡ true) (x : Input) (nurule : Bool) (eps : Float) (budget : ℕ) (d : Lent) (most : n ≤ 512)
+module _ (tune : Tuning) (n : ℕ) (r : List ℕ) (all : (k : ℕ) → k < n → standsIn r k ≡ true) (x : Input) (nurule : Bool) (eps : Float) (budget : ℕ) (d : Lent) (most : n ≤ 512)
     (lf : 7 * n ≤ length (d .floats)) (lu : 2 * n ≤ length (d .numbers)) (ly : n ≤ length (d .bytes)) (lc : n ≤ length (d .crate)) (lh : n ≤ length (d .home)) (M : Matrix n (x .matrix)) where
   abbrev g : Given
-  g = givenOf n TwoClass eps false nurule
+  g = givenBy tune n TwoClass eps false nurule
 
   loads : loadedFloats n (x .ceilings) (kept r (x .weights) n) (silenced r (x .terms) n) (d .floats) n ≡ loadedFloats n (x .ceilings) (x .weights) (x .terms) (d .floats) n
   loads =
@@ -86,13 +87,13 @@ module _ (n : ℕ) (r : List ℕ) (all : (k : ℕ) → k < n → standsIn r k �
       ≡ fitted g Plain (x .matrix) (x .labels) (x .ceilings) (x .weights) (x .terms) budget d
   unfolding fittedSilent fitted
   fitted-nobody =
-      sym (silent-is n r x nurule eps budget d most lf lu ly lc lh M)
+      sym (silent-is tune n r x nurule eps budget d most lf lu ly lc lh M)
       ∙ ap (λ (f : List Float). solvedSilent g (x .matrix) (x .labels) (x .ceilings) r budget (lent (d .crate) (d .home) f (loaded n (x .labels) (x .ceilings) (x .weights) (x .terms) (scratchOf d) .numbers) (loaded n (x .labels) (x .ceilings) (x .weights) (x .terms) (scratchOf d) .labels))) loads
       ∙ solved-all g r all (x .matrix) (x .labels) (x .ceilings) budget _
 
 -- ---- the whole entry
 
-module _ (n : ℕ) (r : List ℕ) (long : length r ≡ n) (all : (k : ℕ) → k < n → getD r k 0 ≡ 0) where
+module _ (tune : Tuning) (n : ℕ) (r : List ℕ) (long : length r ≡ n) (all : (k : ℕ) → k < n → getD r k 0 ≡ 0) where
   stands-all : (k : ℕ) → k < n → standsIn r k ≡ true
   stands-all k h = eq-eqb (getD r k 0) 0 (all k h)
 
@@ -103,7 +104,7 @@ module _ (n : ℕ) (r : List ℕ) (long : length r ≡ n) (all : (k : ℕ) → k
     abbrev input : Input
     input = record { matrix = m; labels = l; ceilings = c; weights = a; terms = p }
 
-    judged-nobody : retiredJudged n m l c a p r eps false budget ≡ generalJudged n m l c a p eps budget
+    judged-nobody : retiredJudged (tune .floor) n m l c a p r eps false budget ≡ floorJudged (tune .floor) (generalJudged n m l c a p eps budget)
     unfolding retiredJudged
     judged-nobody = rw bytes-all (after-none _ ∙ after-none _)
       where
@@ -125,14 +126,14 @@ module _ (n : ℕ) (r : List ℕ) (long : length r ≡ n) (all : (k : ℕ) → k
         go false z = refl
 
     pub sized-nobody : Room n (length m) (length (d .crate)) (length (d .home)) (length (d .floats)) (length (d .numbers)) (length (d .bytes))
-        → retiredSized n m l c a p r nurule eps false budget d ≡ generalSized n m l c a p nurule eps false budget d
-    unfolding retiredSized generalSized
+        → retiredTunedSized tune n m l c a p r nurule eps false budget d ≡ generalTunedSized tune n m l c a p nurule eps false budget d
+    unfolding retiredTunedSized generalTunedSized
     sized-nobody v =
-        rw judged-nobody (decided-nobody (generalJudged n m l c a p eps budget) _ _
-        (λ q. fitted-nobody n r stands-all input nurule eps budget d (v .most) (v .floats) (v .numbers) (v .bytes) (v .crate) (v .home) (usable-general n m budget (v .most) (v .matrix) l c a p eps q .matrix)))
+        rw judged-nobody (decided-nobody (floorJudged (tune .floor) (generalJudged n m l c a p eps budget)) _ _
+        (λ q. fitted-nobody tune n r stands-all input nurule eps budget d (v .most) (v .floats) (v .numbers) (v .bytes) (v .crate) (v .home) (usable-general n m budget (v .most) (v .matrix) l c a p eps (floor-fine (tune .floor) _ q .0) .matrix)))
 
-    pub nobody-retired : retiredOf n m l c a p r nurule eps false budget d ≡ generalOf n m l c a p nurule eps false budget d
-    unfolding retiredOf generalOf
+    pub nobody-retired : retiredTuned tune n m l c a p r nurule eps false budget d ≡ generalTuned tune n m l c a p nurule eps false budget d
+    unfolding retiredTuned generalTuned
     nobody-retired =
         let inputs = eqb (length l) n && eqb (length c) n && eqb (length a) n && eqb (length p) n in
         let same : (inputs && eqb (length r) n) ≡ inputs = rw (eq-eqb (length r) n long) (and-true inputs) in

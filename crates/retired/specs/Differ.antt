@@ -7,7 +7,8 @@ use lib.Ieee.{Float, nan}
 use lib.ListN.{getD}
 use Rattle.answer.specs.Lent.{Lent, Whole}
 use Rattle.kernel.specs.Matrix.{entryAt}
-use Rattle.retired.specs.Entry.{standsIn, retiredOf}
+use Rattle.tuning.specs.declared.Tuning.{Tuning}
+use Rattle.retired.specs.Entry.{standsIn, retiredTuned}
 
 pub record Input : Type 0 where
   pub matrix : List ℕ
@@ -17,8 +18,8 @@ pub record Input : Type 0 where
   pub terms : List Float
 
 -- the entry on it, with the retired bytes r
-abbrev pub retiredFor : Input → ℕ → List ℕ → Bool → Float → Bool → ℕ → Lent → Whole
-retiredFor x n r nurule eps shrinking budget d = retiredOf n (x .matrix) (x .labels) (x .ceilings) (x .weights) (x .terms) r nurule eps shrinking budget d
+abbrev pub retiredFor : Tuning → Input → ℕ → List ℕ → Bool → Float → Bool → ℕ → Lent → Whole
+retiredFor t x n r nurule eps shrinking budget d = retiredTuned t n (x .matrix) (x .labels) (x .ceilings) (x .weights) (x .terms) r nurule eps shrinking budget d
 
 -- wherever a sample stands, or two do, x and y have the same
 pub record DifferRetired (n : ℕ) (r : List ℕ) (x y : Input) : Type 0 where

@@ -10,7 +10,7 @@ use Rattle.answer.specs.Answer.{supportOf, ratioOf, reasonOf}
 use Rattle.answer.specs.Lent.{Lent, Whole, whole, cleared}
 use Rattle.answer.specs.declared.Answer.{Answer}
 use Rattle.answer.specs.declared.Outcome.the-variants.{Accepted}
-use Rattle.classification.specs.Entries.{givenOf, scratchOf, decided, entered, sizesOf}
+use Rattle.classification.specs.Entries.{givenBy, scratchOf, decided, entered, sizesOf}
 use Rattle.fits.specs.Load.{loaded}
 use Rattle.fits.specs.Starts.{nothing}
 use Rattle.judge.specs.Judge.{retiredJudged}
@@ -22,6 +22,8 @@ use Rattle.rho.specs.declared.Level.{Level}
 use Rattle.solver.specs.Run.{Full}
 use Rattle.solver.specs.declared.Given.{Given}
 use Rattle.state.specs.Lists.{state}
+use Rattle.tuning.specs.Tuning.{plainTuning}
+use Rattle.tuning.specs.declared.Tuning.{Tuning}
 
 -- r are the retired bytes: sample k stands where its byte is 0
 abbrev pub standsIn : List ℕ → ℕ → Bool
@@ -61,12 +63,15 @@ answeredOver stands g budget w d =
 unfoldable pub fittedOver : (ℕ → Bool) → Given → List ℕ → List ℕ → List Float → List Float → List Float → ℕ → Lent → Whole
 fittedOver stands g m l c a p budget d = answeredOver stands g budget (trainedOver stands g m c budget (loaded (g .n) l c a p (scratchOf d))) d
 
-unfoldable pub retiredSized : ℕ → List ℕ → List ℕ → List Float → List Float → List Float → List ℕ → Bool → Float → Bool → ℕ → Lent → Whole
-retiredSized n m l c a p r nurule eps shrinking budget d =
-    decided (retiredJudged n m l c a p r eps shrinking budget)
-    (fittedOver (standsIn r) (givenOf n TwoClass eps false nurule) m l c (kept r a n) (kept r p n) budget d) d
+unfoldable pub retiredTunedSized : Tuning → ℕ → List ℕ → List ℕ → List Float → List Float → List Float → List ℕ → Bool → Float → Bool → ℕ → Lent → Whole
+retiredTunedSized t n m l c a p r nurule eps shrinking budget d =
+    decided (retiredJudged (t .floor) n m l c a p r eps shrinking budget)
+    (fittedOver (standsIn r) (givenBy t n TwoClass eps false nurule) m l c (kept r a n) (kept r p n) budget d) d
 
-unfoldable pub retiredOf : ℕ → List ℕ → List ℕ → List Float → List Float → List Float → List ℕ → Bool → Float → Bool → ℕ → Lent → Whole
-retiredOf n m l c a p r nurule eps shrinking budget d =
+unfoldable pub retiredTuned : Tuning → ℕ → List ℕ → List ℕ → List Float → List Float → List Float → List ℕ → Bool → Float → Bool → ℕ → Lent → Whole
+retiredTuned t n m l c a p r nurule eps shrinking budget d =
     let inputs = eqb (length l) n && eqb (length c) n && eqb (length a) n && eqb (length p) n && eqb (length r) n in
-    entered (sizesOf n inputs m d) (retiredSized n m l c a p r nurule eps shrinking budget d) d
+    entered (sizesOf n inputs m d) (retiredTunedSized t n m l c a p r nurule eps shrinking budget d) d
+
+abbrev pub retiredOf : ℕ → List ℕ → List ℕ → List Float → List Float → List Float → List ℕ → Bool → Float → Bool → ℕ → Lent → Whole
+retiredOf = retiredTuned plainTuning

@@ -2,10 +2,11 @@
 ghost use mathlib.Core.Path.{_≡_};
 ghost use Prim.Native.Nat.{ℕ, _*_, _≤_};
 ghost use lib.ListN.{length};
-ghost use Rattle.classification.specs.Entries.{generalSized, fitCSized, fitNuSized, fitOneClassSized};
+ghost use Rattle.classification.specs.Entries.{generalTunedSized, fitCTunedSized, fitNuTunedSized, fitOneClassTunedSized};
 ghost use Rattle.hosted.specs.Hosted.{floatsOf, room, Handed, handed, delivered};
 ghost use Rattle.judge.specs.Sizes.{Room};
-ghost use Rattle.retired.specs.Entry.{retiredSized};
+ghost use Rattle.retired.specs.Entry.{retiredTunedSized};
+use tuning::Tuning;
 
 fn general_roomed(
     n: usize,
@@ -18,13 +19,14 @@ fn general_roomed(
     eps: f64,
     shrinking: bool,
     budget: u64,
+    t: Tuning,
     cr: &mut [u8],
     h: &mut [u8],
     answer: &mut [u8],
 ) -> u64
     requires { ⌜ (Room n (length (now m)) 512 512 3584 1024 512) × (n ≤ length (now l)) × (n ≤ length (now c)) × (n ≤ length (now a)) × (n ≤ length (now p)) × (8 * n ≤ length (now cr)) × (8 * n ≤ length (now h)) × (72 ≤ length (now answer)) ⌝ }
     ensures { λ k. ⌜ _≡_ {A = Handed} (handed k (now (cr .exit)) (now (h .exit)) (now (answer .exit)))
-        (delivered n (generalSized n (now (m .entry)) (now (l .entry)) (now (c .entry)) (now (a .entry)) (now (p .entry)) nurule eps shrinking budget room) (now (cr .entry)) (now (h .entry)) (now (answer .entry))) ⌝ }
+        (delivered n (generalTunedSized t n (now (m .entry)) (now (l .entry)) (now (c .entry)) (now (a .entry)) (now (p .entry)) nurule eps shrinking budget room) (now (cr .entry)) (now (h .entry)) (now (answer .entry))) ⌝ }
 {
     let mut c2 = hosted::places();
     let mut h2 = hosted::places();
@@ -42,6 +44,7 @@ fn general_roomed(
         eps,
         shrinking,
         budget,
+        t,
         &mut c2,
         &mut h2,
         &mut f,
@@ -63,13 +66,14 @@ pub fn general(
     eps: f64,
     shrinking: bool,
     budget: u64,
+    t: Tuning,
     cr: &mut [u8],
     h: &mut [u8],
     answer: &mut [u8],
 ) -> u64
     requires { ⌜ (Room n (length (now m)) 512 512 3584 1024 512) × (n ≤ length (now l)) × (8 * n ≤ length (now c)) × (8 * n ≤ length (now a)) × (8 * n ≤ length (now p)) × (8 * n ≤ length (now cr)) × (8 * n ≤ length (now h)) × (72 ≤ length (now answer)) ⌝ }
     ensures { λ k. ⌜ _≡_ {A = Handed} (handed k (now (cr .exit)) (now (h .exit)) (now (answer .exit)))
-        (delivered n (generalSized n (now (m .entry)) (now (l .entry)) (floatsOf (now (c .entry)) n) (floatsOf (now (a .entry)) n) (floatsOf (now (p .entry)) n) nurule eps shrinking budget room) (now (cr .entry)) (now (h .entry)) (now (answer .entry))) ⌝ }
+        (delivered n (generalTunedSized t n (now (m .entry)) (now (l .entry)) (floatsOf (now (c .entry)) n) (floatsOf (now (a .entry)) n) (floatsOf (now (p .entry)) n) nurule eps shrinking budget room) (now (cr .entry)) (now (h .entry)) (now (answer .entry))) ⌝ }
 {
     let mut dc = hosted::places();
     let mut da = hosted::places();
@@ -88,6 +92,7 @@ pub fn general(
         eps,
         shrinking,
         budget,
+        t,
         cr,
         h,
         answer,
@@ -106,13 +111,14 @@ fn retired_roomed(
     eps: f64,
     shrinking: bool,
     budget: u64,
+    t: Tuning,
     cr: &mut [u8],
     h: &mut [u8],
     answer: &mut [u8],
 ) -> u64
     requires { ⌜ (Room n (length (now m)) 512 512 3584 1024 512) × (n ≤ length (now l)) × (n ≤ length (now c)) × (n ≤ length (now a)) × (n ≤ length (now p)) × (n ≤ length (now r)) × (8 * n ≤ length (now cr)) × (8 * n ≤ length (now h)) × (72 ≤ length (now answer)) ⌝ }
     ensures { λ k. ⌜ _≡_ {A = Handed} (handed k (now (cr .exit)) (now (h .exit)) (now (answer .exit)))
-        (delivered n (retiredSized n (now (m .entry)) (now (l .entry)) (now (c .entry)) (now (a .entry)) (now (p .entry)) (now (r .entry)) nurule eps shrinking budget room) (now (cr .entry)) (now (h .entry)) (now (answer .entry))) ⌝ }
+        (delivered n (retiredTunedSized t n (now (m .entry)) (now (l .entry)) (now (c .entry)) (now (a .entry)) (now (p .entry)) (now (r .entry)) nurule eps shrinking budget room) (now (cr .entry)) (now (h .entry)) (now (answer .entry))) ⌝ }
 {
     let mut c2 = hosted::places();
     let mut h2 = hosted::places();
@@ -131,6 +137,7 @@ fn retired_roomed(
         eps,
         shrinking,
         budget,
+        t,
         &mut c2,
         &mut h2,
         &mut f,
@@ -153,13 +160,14 @@ pub fn retired(
     eps: f64,
     shrinking: bool,
     budget: u64,
+    t: Tuning,
     cr: &mut [u8],
     h: &mut [u8],
     answer: &mut [u8],
 ) -> u64
     requires { ⌜ (Room n (length (now m)) 512 512 3584 1024 512) × (n ≤ length (now l)) × (8 * n ≤ length (now c)) × (8 * n ≤ length (now a)) × (8 * n ≤ length (now p)) × (n ≤ length (now r)) × (8 * n ≤ length (now cr)) × (8 * n ≤ length (now h)) × (72 ≤ length (now answer)) ⌝ }
     ensures { λ k. ⌜ _≡_ {A = Handed} (handed k (now (cr .exit)) (now (h .exit)) (now (answer .exit)))
-        (delivered n (retiredSized n (now (m .entry)) (now (l .entry)) (floatsOf (now (c .entry)) n) (floatsOf (now (a .entry)) n) (floatsOf (now (p .entry)) n) (now (r .entry)) nurule eps shrinking budget room) (now (cr .entry)) (now (h .entry)) (now (answer .entry))) ⌝ }
+        (delivered n (retiredTunedSized t n (now (m .entry)) (now (l .entry)) (floatsOf (now (c .entry)) n) (floatsOf (now (a .entry)) n) (floatsOf (now (p .entry)) n) (now (r .entry)) nurule eps shrinking budget room) (now (cr .entry)) (now (h .entry)) (now (answer .entry))) ⌝ }
 {
     let mut ceilings = hosted::places();
     let mut alphas = hosted::places();
@@ -179,6 +187,7 @@ pub fn retired(
         eps,
         shrinking,
         budget,
+        t,
         cr,
         h,
         answer,
@@ -194,13 +203,14 @@ pub fn c(
     eps: f64,
     shrinking: bool,
     budget: u64,
+    t: Tuning,
     cr: &mut [u8],
     h: &mut [u8],
     answer: &mut [u8],
 ) -> u64
     requires { ⌜ (Room n (length (now m)) 512 512 3584 1024 512) × (n ≤ length (now l)) × (8 * n ≤ length (now cr)) × (8 * n ≤ length (now h)) × (72 ≤ length (now answer)) ⌝ }
     ensures { λ k. ⌜ _≡_ {A = Handed} (handed k (now (cr .exit)) (now (h .exit)) (now (answer .exit)))
-        (delivered n (fitCSized n (now (m .entry)) (now (l .entry)) cpos cneg eps shrinking budget room) (now (cr .entry)) (now (h .entry)) (now (answer .entry))) ⌝ }
+        (delivered n (fitCTunedSized t n (now (m .entry)) (now (l .entry)) cpos cneg eps shrinking budget room) (now (cr .entry)) (now (h .entry)) (now (answer .entry))) ⌝ }
 {
     let mut c2 = hosted::places();
     let mut h2 = hosted::places();
@@ -216,6 +226,7 @@ pub fn c(
         eps,
         shrinking,
         budget,
+        t,
         &mut c2,
         &mut h2,
         &mut f,
@@ -233,13 +244,14 @@ pub fn nu(
     eps: f64,
     shrinking: bool,
     budget: u64,
+    t: Tuning,
     cr: &mut [u8],
     h: &mut [u8],
     answer: &mut [u8],
 ) -> u64
     requires { ⌜ (Room n (length (now m)) 512 512 3584 1024 512) × (n ≤ length (now l)) × (8 * n ≤ length (now cr)) × (8 * n ≤ length (now h)) × (72 ≤ length (now answer)) ⌝ }
     ensures { λ k. ⌜ _≡_ {A = Handed} (handed k (now (cr .exit)) (now (h .exit)) (now (answer .exit)))
-        (delivered n (fitNuSized n (now (m .entry)) (now (l .entry)) nu eps shrinking budget room) (now (cr .entry)) (now (h .entry)) (now (answer .entry))) ⌝ }
+        (delivered n (fitNuTunedSized t n (now (m .entry)) (now (l .entry)) nu eps shrinking budget room) (now (cr .entry)) (now (h .entry)) (now (answer .entry))) ⌝ }
 {
     let mut c2 = hosted::places();
     let mut h2 = hosted::places();
@@ -254,6 +266,7 @@ pub fn nu(
         eps,
         shrinking,
         budget,
+        t,
         &mut c2,
         &mut h2,
         &mut f,
@@ -270,13 +283,14 @@ pub fn one_class(
     eps: f64,
     shrinking: bool,
     budget: u64,
+    t: Tuning,
     cr: &mut [u8],
     h: &mut [u8],
     answer: &mut [u8],
 ) -> u64
     requires { ⌜ (Room n (length (now m)) 512 512 3584 1024 512) × (8 * n ≤ length (now cr)) × (8 * n ≤ length (now h)) × (72 ≤ length (now answer)) ⌝ }
     ensures { λ k. ⌜ _≡_ {A = Handed} (handed k (now (cr .exit)) (now (h .exit)) (now (answer .exit)))
-        (delivered n (fitOneClassSized n (now (m .entry)) nu eps shrinking budget room) (now (cr .entry)) (now (h .entry)) (now (answer .entry))) ⌝ }
+        (delivered n (fitOneClassTunedSized t n (now (m .entry)) nu eps shrinking budget room) (now (cr .entry)) (now (h .entry)) (now (answer .entry))) ⌝ }
 {
     let mut c2 = hosted::places();
     let mut h2 = hosted::places();
@@ -290,6 +304,7 @@ pub fn one_class(
         eps,
         shrinking,
         budget,
+        t,
         &mut c2,
         &mut h2,
         &mut f,

@@ -1,4 +1,4 @@
-// Refusal 3, the scan of the matrix, and each entry's verdict: the lowest number that applies.
+// Refusal 3, the scan of the matrix, and each entry's verdict: the first number that applies.
 ghost use mathlib.Core.Bool.{true};
 ghost use mathlib.Core.Path.{_≡_};
 ghost use Prim.Native.Nat.{ℕ, _+_, _*_, _≤_, _<_};
@@ -112,12 +112,14 @@ pub fn retired_judged(
     eps: f64,
     shrinking: bool,
     budget: u64,
+    floor: f64,
 ) -> Judged
     requires { ⌜ (n ≤ 512) × (8 * (n * n) ≤ length (now m)) × (n ≤ length (now l)) × (n ≤ length (now c)) × (n ≤ length (now a)) × (n ≤ length (now p)) × (n ≤ length (now r)) ⌝ }
-    ensures { λ z. ⌜ z ≡ retiredJudged n (now (m .entry)) (now (l .entry)) (now (c .entry)) (now (a .entry)) (now (p .entry)) (now (r .entry)) eps shrinking budget ⌝ }
+    ensures { λ z. ⌜ z ≡ retiredJudged floor n (now (m .entry)) (now (l .entry)) (now (c .entry)) (now (a .entry)) (now (p .entry)) (now (r .entry)) eps shrinking budget ⌝ }
 {
     let j10 = general_judged(n, m, l, c, a, p, eps, budget);
-    let j12 = judge::retired_judged(j10, r, n);
+    let j14 = judge::floor_judged(j10, floor);
+    let j12 = judge::retired_judged(j14, r, n);
     judge::shrinking_judged(j12, shrinking)
 }
 

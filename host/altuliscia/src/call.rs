@@ -2,15 +2,15 @@
 #![allow(unsafe_code)]
 
 use crate::functions::{
-    altuliscia_c, altuliscia_general, altuliscia_nu, altuliscia_one_class, altuliscia_pair,
-    altuliscia_retired,
+    altuliscia_c_tuned, altuliscia_general_tuned, altuliscia_nu_tuned, altuliscia_one_class_tuned,
+    altuliscia_pair, altuliscia_retired,
 };
 use crate::{
     Answer, Before, ExitReason, General, OneClass, Options, Problem, Refusal, MOST_SAMPLES,
 };
 
-/// The bytes of an answer.
-const ANSWER: usize = 72;
+/// The bytes of an answer: of the tuned functions sixteen words, of which nine are known; that of retired samples ends with these.
+const ANSWER: usize = 128;
 
 /// What a call writes.
 pub(crate) struct Room {
@@ -55,6 +55,11 @@ impl Room {
     }
 }
 
+/// The options that travel as a tuning, as its words.
+fn tuning(o: &Options) -> [f64; 1] {
+    [o.floor]
+}
+
 /// The length in bytes of a list of doubles. No list is so long that this wraps.
 fn bytes(list: &[f64]) -> usize {
     std::mem::size_of_val(list)
@@ -66,65 +71,64 @@ fn bytes(list: &[f64]) -> usize {
 
 #[rustfmt::skip]
 pub(crate) fn general(g: &General, o: &Options, room: &mut Room) -> u64 {
-    let (m, l) = (g.problem.matrix, g.problem.labels);
+    let (m, l, t) = (g.problem.matrix, g.problem.labels, tuning(o));
     let (lc, lh) = (bytes(&room.crate_reading), bytes(&room.home));
     let (c, h, a) = (&mut room.crate_reading, &mut room.home, &mut room.answer);
     unsafe {
-        altuliscia_general(l.len(), m.as_ptr().cast(), bytes(m), l.as_ptr().cast(), l.len(),
+        altuliscia_general_tuned(l.len(), m.as_ptr().cast(), bytes(m), l.as_ptr().cast(), l.len(),
             g.ceilings.as_ptr().cast(), bytes(g.ceilings), g.alphas.as_ptr().cast(), bytes(g.alphas),
             g.linear.as_ptr().cast(), bytes(g.linear), u8::from(g.nu_rule), o.eps.to_bits(), u8::from(o.shrinking), o.budget,
-            c.as_mut_ptr().cast(), lc, h.as_mut_ptr().cast(), lh, a.as_mut_ptr(), ANSWER)
+            t.as_ptr().cast(), bytes(&t), c.as_mut_ptr().cast(), lc, h.as_mut_ptr().cast(), lh, a.as_mut_ptr(), ANSWER)
     }
 }
 
-/// The tuning is empty: this library knows no word of it.
 #[rustfmt::skip]
 pub(crate) fn retired(g: &General, r: &[bool], o: &Options, room: &mut Room) -> u64 {
-    let (m, l) = (g.problem.matrix, g.problem.labels);
+    let (m, l, t) = (g.problem.matrix, g.problem.labels, tuning(o));
     let (lc, lh) = (bytes(&room.crate_reading), bytes(&room.home));
     let (c, h, a) = (&mut room.crate_reading, &mut room.home, &mut room.answer);
     unsafe {
         altuliscia_retired(l.len(), m.as_ptr().cast(), bytes(m), l.as_ptr().cast(), l.len(),
             g.ceilings.as_ptr().cast(), bytes(g.ceilings), g.alphas.as_ptr().cast(), bytes(g.alphas),
             g.linear.as_ptr().cast(), bytes(g.linear), r.as_ptr().cast(), r.len(),
-            u8::from(g.nu_rule), o.eps.to_bits(), u8::from(o.shrinking), o.budget, std::ptr::null(), 0,
-            c.as_mut_ptr().cast(), lc, h.as_mut_ptr().cast(), lh, a.as_mut_ptr(), ANSWER)
+            u8::from(g.nu_rule), o.eps.to_bits(), u8::from(o.shrinking), o.budget,
+            t.as_ptr().cast(), bytes(&t), c.as_mut_ptr().cast(), lc, h.as_mut_ptr().cast(), lh, a.as_mut_ptr(), ANSWER)
     }
 }
 
 #[rustfmt::skip]
 pub(crate) fn c(p: &Problem, cpos: f64, cneg: f64, o: &Options, room: &mut Room) -> u64 {
-    let (m, l) = (p.matrix, p.labels);
+    let (m, l, t) = (p.matrix, p.labels, tuning(o));
     let (lc, lh) = (bytes(&room.crate_reading), bytes(&room.home));
     let (c, h, a) = (&mut room.crate_reading, &mut room.home, &mut room.answer);
     unsafe {
-        altuliscia_c(l.len(), m.as_ptr().cast(), bytes(m), l.as_ptr().cast(), l.len(),
+        altuliscia_c_tuned(l.len(), m.as_ptr().cast(), bytes(m), l.as_ptr().cast(), l.len(),
             cpos.to_bits(), cneg.to_bits(), o.eps.to_bits(), u8::from(o.shrinking), o.budget,
-            c.as_mut_ptr().cast(), lc, h.as_mut_ptr().cast(), lh, a.as_mut_ptr(), ANSWER)
+            t.as_ptr().cast(), bytes(&t), c.as_mut_ptr().cast(), lc, h.as_mut_ptr().cast(), lh, a.as_mut_ptr(), ANSWER)
     }
 }
 
 #[rustfmt::skip]
 pub(crate) fn nu(p: &Problem, nu: f64, o: &Options, room: &mut Room) -> u64 {
-    let (m, l) = (p.matrix, p.labels);
+    let (m, l, t) = (p.matrix, p.labels, tuning(o));
     let (lc, lh) = (bytes(&room.crate_reading), bytes(&room.home));
     let (c, h, a) = (&mut room.crate_reading, &mut room.home, &mut room.answer);
     unsafe {
-        altuliscia_nu(l.len(), m.as_ptr().cast(), bytes(m), l.as_ptr().cast(), l.len(),
+        altuliscia_nu_tuned(l.len(), m.as_ptr().cast(), bytes(m), l.as_ptr().cast(), l.len(),
             nu.to_bits(), o.eps.to_bits(), u8::from(o.shrinking), o.budget,
-            c.as_mut_ptr().cast(), lc, h.as_mut_ptr().cast(), lh, a.as_mut_ptr(), ANSWER)
+            t.as_ptr().cast(), bytes(&t), c.as_mut_ptr().cast(), lc, h.as_mut_ptr().cast(), lh, a.as_mut_ptr(), ANSWER)
     }
 }
 
 #[rustfmt::skip]
 pub(crate) fn one_class(s: &OneClass, nu: f64, o: &Options, room: &mut Room) -> u64 {
-    let m = s.matrix;
+    let (m, t) = (s.matrix, tuning(o));
     let (lc, lh) = (bytes(&room.crate_reading), bytes(&room.home));
     let (c, h, a) = (&mut room.crate_reading, &mut room.home, &mut room.answer);
     unsafe {
-        altuliscia_one_class(s.n, m.as_ptr().cast(), bytes(m),
+        altuliscia_one_class_tuned(s.n, m.as_ptr().cast(), bytes(m),
             nu.to_bits(), o.eps.to_bits(), u8::from(o.shrinking), o.budget,
-            c.as_mut_ptr().cast(), lc, h.as_mut_ptr().cast(), lh, a.as_mut_ptr(), ANSWER)
+            t.as_ptr().cast(), bytes(&t), c.as_mut_ptr().cast(), lc, h.as_mut_ptr().cast(), lh, a.as_mut_ptr(), ANSWER)
     }
 }
 
@@ -144,6 +148,11 @@ pub(crate) fn pair(i: &Before, j: &Before, entry: f64, agree: bool) -> (f64, f64
 #[cfg(test)]
 mod tests {
     use super::*;
+    use crate::functions::altuliscia_c;
+    use crate::USUAL_FLOOR;
+
+    /// The bytes of an answer without a tuning.
+    const PLAIN: usize = 72;
 
     /// The bytes that docs/BYTES.md shows from the line of that name on, up to an empty line or another name.
     fn shown(name: &str) -> Vec<u8> {
@@ -171,15 +180,41 @@ mod tests {
         }
     }
 
+    /// As `c`, by the function that takes no tuning.
+    #[rustfmt::skip]
+    fn plain_c(p: &Problem, cpos: f64, cneg: f64, o: &Options, room: &mut Room) -> u64 {
+        let (m, l) = (p.matrix, p.labels);
+        let (c, h, a) = (&mut room.crate_reading, &mut room.home, &mut room.answer);
+        unsafe {
+            altuliscia_c(l.len(), m.as_ptr().cast(), bytes(m), l.as_ptr().cast(), l.len(),
+                cpos.to_bits(), cneg.to_bits(), o.eps.to_bits(), u8::from(o.shrinking), o.budget,
+                c.as_mut_ptr().cast(), 16, h.as_mut_ptr().cast(), 16, a.as_mut_ptr(), ANSWER)
+        }
+    }
+
     #[test]
     fn calls_write_what_the_document_shows() {
+        as_the_document_shows(plain_c, [7; ANSWER - PLAIN]);
+    }
+
+    #[test]
+    fn with_a_tuning_zeros_follow() {
+        as_the_document_shows(c, [0; ANSWER - PLAIN]);
+    }
+
+    /// Two calls, and what they leave behind the nine numbers.
+    fn as_the_document_shows(
+        call: fn(&Problem, f64, f64, &Options, &mut Room) -> u64,
+        behind: [u8; ANSWER - PLAIN],
+    ) {
         let labels = [true, false];
         let options = Options {
             eps: f64::from_bits(0x3f50_624d_d2f1_a9fc),
             shrinking: true,
             budget: 2,
+            floor: f64::from_le_bytes(shown("tuning").try_into().unwrap()),
         };
-        assert_eq!(options.eps, 0.001);
+        assert_eq!((options.eps, options.floor), (0.001, 1e-12));
         let mut matrix = [1.0, 0.0, 0.0, 1.0];
         assert_eq!(shown("matrix"), bytes_of(&matrix));
         assert_eq!(shown("labels"), labels.map(u8::from));
@@ -188,10 +223,10 @@ mod tests {
             matrix: &matrix,
             labels: &labels,
         };
-        assert_eq!(c(&problem, 1.0, 1.0, &options, &mut left), 0);
+        assert_eq!(call(&problem, 1.0, 1.0, &options, &mut left), 0);
         assert_eq!(shown("crate_reading"), bytes_of(&left.crate_reading));
         assert_eq!(shown("home"), bytes_of(&left.home));
-        assert_eq!(shown("answer"), left.answer);
+        assert_eq!([shown("answer"), behind.to_vec()].concat(), left.answer);
 
         matrix[2] = f64::NAN;
         let mut left = room();
@@ -199,32 +234,32 @@ mod tests {
             matrix: &matrix,
             labels: &labels,
         };
-        assert_eq!(c(&problem, 1.0, 1.0, &options, &mut left), 3);
-        assert_eq!(shown("refused"), left.answer);
+        assert_eq!(call(&problem, 1.0, 1.0, &options, &mut left), 3);
+        assert_eq!([shown("refused"), behind.to_vec()].concat(), left.answer);
         assert_eq!(
             (left.crate_reading, left.home),
             (vec![7.0; 2], vec![7.0; 2])
         );
     }
 
-    /// A raw call of two samples with any retired bytes, a tuning of so many bytes, shrinking and a budget. Hands back the result, and
-    /// number and index as the answer has them.
+    /// A raw call of two samples with any retired bytes, any tuning, shrinking and a budget. Hands back the result, and number and index
+    /// as the answer has them.
     #[rustfmt::skip]
-    fn raw(marks: &[u8], tuning: usize, shrinking: u8, budget: u64) -> (u64, u64, u64) {
+    fn raw(marks: &[u8], tuning: &[u8], shrinking: u8, budget: u64) -> (u64, u64, u64) {
         let mut left = room();
         let (matrix, labels, ceilings, alphas, linear) = ([1.0, 0.0, 0.0, 1.0], [1_u8, 0], [1.0; 2], [0.0; 2], [-1.0; 2]);
-        let words = vec![0_u8; tuning];
         let result = unsafe {
             altuliscia_retired(2, matrix.as_ptr().cast(), bytes(&matrix), labels.as_ptr(), labels.len(),
                 ceilings.as_ptr().cast(), bytes(&ceilings), alphas.as_ptr().cast(), bytes(&alphas),
                 linear.as_ptr().cast(), bytes(&linear), marks.as_ptr(), marks.len(), 0, 0, shrinking, budget,
-                words.as_ptr(), words.len(), left.crate_reading.as_mut_ptr().cast(), 16,
+                tuning.as_ptr(), tuning.len(), left.crate_reading.as_mut_ptr().cast(), 16,
                 left.home.as_mut_ptr().cast(), 16, left.answer.as_mut_ptr(), ANSWER)
         };
         if result != 0 {
             assert_eq!((&left.crate_reading, &left.home), (&vec![7.0; 2], &vec![7.0; 2]));
-            assert_eq!(left.answer[16..], [0; ANSWER - 16]);
+            assert_eq!(left.answer[16..PLAIN], [0; PLAIN - 16]);
         }
+        assert_eq!(left.answer[PLAIN..], [7; ANSWER - PLAIN]);
         (result, left.word(0), left.word(1))
     }
 
@@ -270,17 +305,22 @@ mod tests {
     /// What no list of `bool` and no call of this crate can lead to.
     #[test]
     fn retired_bytes_and_tuning_are_judged() {
-        assert_eq!(raw(&[0, 1], 0, 0, 1), (0, 0, 0));
+        let (usual, bad) = (USUAL_FLOOR.to_le_bytes(), [0; 8]);
+        for tuning in [&[][..], &usual] {
+            assert_eq!(raw(&[0, 1], tuning, 0, 1), (0, 0, 0));
+            assert_eq!(raw(&[0, 1], tuning, 1, 1), (13, 13, 0));
+        }
         for marks in [[2, 0], [0, 2], [1, 255]] {
             for shrinking in [0, 1] {
-                assert_eq!(raw(&marks, 0, shrinking, 1), (12, 12, 0));
+                assert_eq!(raw(&marks, &usual, shrinking, 1), (12, 12, 0));
+                assert_eq!(raw(&marks, &bad, shrinking, 1), (14, 14, 0));
             }
-            assert_eq!(raw(&marks, 0, 1, 0), (10, 10, 0));
-            assert_eq!(raw(&marks, 8, 1, 0), (2, 2, 0));
+            assert_eq!(raw(&marks, &bad, 1, 0), (10, 10, 0));
+            assert_eq!(raw(&marks, &bad[1..], 1, 0), (2, 2, 0));
         }
-        for tuning in [1, 7, 8, 16] {
-            assert_eq!(raw(&[0, 1], tuning, 0, 1), (2, 2, 0));
+        for length in [1, 7, 9, 16] {
+            assert_eq!(raw(&[0, 1], &vec![0; length], 0, 1), (2, 2, 0));
         }
-        assert_eq!(raw(&[0, 1], 0, 1, 1), (13, 13, 0));
+        assert_eq!(raw(&[0, 1], &bad, 0, 1), (14, 14, 0));
     }
 }

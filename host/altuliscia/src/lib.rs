@@ -52,6 +52,21 @@
 //!
 //! [`trail`] follows one sample through a training, given as a [`Training`]: where its weight started and every step that chose it, compared
 //! with the library's own calls. [`find_pair`] is one such step by itself.
+//!
+//! # Another floor
+//!
+//! Where the curvature of a pair isn't above 0, [`Options::floor`] stands for it. Two samples with the same kernel values and different labels
+//! are such a pair, and a smaller floor takes longer steps along it:
+//!
+//! ```
+//! use altuliscia::{fit_c, Options, Problem};
+//!
+//! let problem = Problem { matrix: &[1.0; 4], labels: &[true, false] };
+//! let fit = |floor| fit_c(&problem, 1e12, 1e12, &Options { floor, ..Options::default() });
+//! assert_eq!(fit(1e-10)?.iterations, 50);
+//! assert_eq!(fit(1e-12)?.iterations, 1);
+//! # Ok::<(), altuliscia::Refusal>(())
+//! ```
 #![deny(missing_docs, unsafe_code)]
 
 mod call;
@@ -73,6 +88,8 @@ pub const MOST_SAMPLES: usize = 512;
 pub const MOST_PASSES: u64 = 10_000_000;
 /// A weight counts as support where its magnitude is above this: 100*2^-52, as in `linfa-svm`.
 pub const SUPPORT_LIMIT: f64 = 2.220446049250313e-14;
+/// The floor of the curvature in `linfa-svm`, and by default; LIBSVM has 1e-12.
+pub const USUAL_FLOOR: f64 = 1e-10;
 /// What a call needs of the stack at the most, in bytes.
 pub const STACK_BYTES: usize = 65_536;
 
@@ -120,6 +137,10 @@ pub struct Options {
     pub shrinking: bool,
     /// The most passes, from 1 to [`MOST_PASSES`], which is the default.
     pub budget: u64,
+    /// Stands for the curvature of a pair where that isn't above 0, in the choice of the pair and in its step: above 0 and not above 1.
+    /// [`USUAL_FLOOR`] by default; a bad one is [`Refusal::Floor`]. A smaller one takes longer steps along flat directions. With another one
+    /// than the usual there is no [`trail`].
+    pub floor: f64,
 }
 
 impl Default for Options {
@@ -128,6 +149,7 @@ impl Default for Options {
             eps: 1e-7,
             shrinking: false,
             budget: MOST_PASSES,
+            floor: USUAL_FLOOR,
         }
     }
 }
@@ -159,7 +181,7 @@ pub struct Answer {
     /// How many places of `home` are above [`SUPPORT_LIMIT`] in magnitude; neither a NaN nor a zero is. A weight that isn't counted and
     /// isn't 0 still has its say in a decision.
     pub support: u64,
-    /// What `linfa-svm` answers: place i has the weight at position order\[i\].
+    /// What `linfa-svm` answers, or would with this floor for its 1e-10: place i has the weight at position order\[i\].
     pub crate_reading: Vec<f64>,
     /// Each sample's own weight, its dual coefficient. The head of this page says how it is used.
     pub home: Vec<f64>,

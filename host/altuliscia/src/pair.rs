@@ -17,7 +17,8 @@ pub struct Before {
 /// What a step leaves of the weights of its two samples, i and j, in that order: the library's own step (docs/RULE.md, 'Update').
 ///
 /// `entry` is the kernel value of column i, row j where the labels of i and j agree, which `agree` says, and its negative where they don't.
-/// Nothing is refused: NaN and infinities go through the same comparisons as any other number.
+/// Nothing is refused: NaN and infinities go through the same comparisons as any other number. The floor of the curvature is
+/// [`USUAL_FLOOR`](crate::USUAL_FLOOR).
 ///
 /// ```
 /// use altuliscia::{find_pair, Before};

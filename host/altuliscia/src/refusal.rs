@@ -1,7 +1,7 @@
 //! Refusals: numbers, indices and what each says. The sentences are those of include/altuliscia.h.
 use std::fmt;
 
-/// Why a call was refused. Where several apply, it is the one of the lowest number.
+/// Why a call was refused. Where several apply, it is the first in the order 1 to 10, 14, 12, 13; 11 comes in the run.
 #[derive(Clone, Copy, Debug, PartialEq, Eq, Hash)]
 #[non_exhaustive]
 pub enum Refusal {
@@ -46,6 +46,8 @@ pub enum Refusal {
     RetiredByte,
     /// 13: shrinking is on where samples may be retired.
     RetiredShrinking,
+    /// 14: the floor of the curvature.
+    Floor,
     /// A number that this crate doesn't know.
     Other {
         /// The refusal's number.
@@ -71,6 +73,7 @@ impl Refusal {
             11 => Refusal::ShrunkAway,
             12 => Refusal::RetiredByte,
             13 => Refusal::RetiredShrinking,
+            14 => Refusal::Floor,
             _ => Refusal::Other { number, index },
         }
     }
@@ -91,6 +94,7 @@ impl Refusal {
             Refusal::ShrunkAway => 11,
             Refusal::RetiredByte => 12,
             Refusal::RetiredShrinking => 13,
+            Refusal::Floor => 14,
             Refusal::Other { number, .. } => number,
         }
     }
@@ -113,7 +117,7 @@ impl Refusal {
     pub fn sentence(&self) -> &'static str {
         match self {
             Refusal::Samples => "The number of samples is 0 or above 512: lend 1 to 512 samples.",
-            Refusal::Length => "A list has the wrong length: lend a matrix of 8*n*n bytes, n labels, n retired bytes, 8n bytes for each list of doubles, an empty tuning, at least 8n bytes for each result list and at least 72 for the answer.",
+            Refusal::Length => "A list has the wrong length: lend a matrix of 8*n*n bytes, n labels, n retired bytes, 8n bytes for each list of doubles, a tuning of 0 or 8 bytes, at least 8n bytes for each result list and at least 72 for the answer, under the tuned functions 128.",
             Refusal::Kernel { .. } => "A kernel entry is NaN, infinite or above 2^1000 in magnitude: the index is column*n + row; scale the kernel down or mend that entry.",
             Refusal::Label { .. } => "A label is neither 0 nor 1: the index is its sample; write 1 for positive, 0 for negative.",
             Refusal::Ceiling { .. } => "A ceiling is NaN, not above 0 or above 2^1000: the index is its sample, in the C entry 0 for cpos and 1 for cneg; give a ceiling above 0 and not above 2^1000.",
@@ -125,6 +129,7 @@ impl Refusal {
             Refusal::ShrunkAway => "Shrinking would have taken more samples out than were active: train with shrinking off, which avoids it.",
             Refusal::RetiredByte => "A retired byte is neither 0 nor 1: write 1 for a retired sample, 0 for any other.",
             Refusal::RetiredShrinking => "Shrinking is asked for where samples may be retired: train with shrinking off.",
+            Refusal::Floor => "The floor of the curvature is NaN, not above 0 or above 1: give a number above 0 and not above 1; the usual one is 1e-10.",
             Refusal::Other { .. } => "This refusal is newer than this crate: look it up in altuliscia.h.",
         }
     }
@@ -172,7 +177,7 @@ mod tests {
     fn sentences_are_the_headers() {
         let header = header();
         let numbers: Vec<u64> = header.iter().map(|(number, _)| *number).collect();
-        assert_eq!(numbers, (1..=13).collect::<Vec<u64>>());
+        assert_eq!(numbers, (1..=14).collect::<Vec<u64>>());
         for (number, sentence) in header {
             assert_eq!(Refusal::new(number, 0).sentence(), sentence);
         }
@@ -180,9 +185,9 @@ mod tests {
 
     #[test]
     fn a_refusal_keeps_its_number_and_index() {
-        for number in (1..=14).chain([u64::MAX]) {
+        for number in (1..=15).chain([u64::MAX]) {
             let refusal = Refusal::new(number, 5);
-            let index = if (3..=7).contains(&number) || number > 13 {
+            let index = if (3..=7).contains(&number) || number > 14 {
                 5
             } else {
                 0

@@ -1,10 +1,7 @@
-//! A run by the rule (docs/RULE.md), in plain f64 and with shrinking off, so that position k holds sample k. What is computed here is
-//! tested, not proved: `trail` has the library confirm what comes of it.
+//! A run by the rule (docs/RULE.md), in plain f64, with the usual floor and shrinking off, so that position k holds sample k. What is
+//! computed here is tested, not proved: `trail` has the library confirm what comes of it.
 use crate::training::Lists;
-use crate::Before;
-
-/// Stands for a curvature that isn't above 0.
-const FLOOR: f64 = 1e-10;
+use crate::{Before, USUAL_FLOOR};
 
 /// A run between two passes.
 #[derive(Clone, Debug)]
@@ -165,7 +162,7 @@ impl<'a> Replay<'a> {
             self.entry(i, j),
             self.agree(i, j),
         );
-        let q = if q > 0.0 { q } else { FLOOR };
+        let q = if q > 0.0 { q } else { USUAL_FLOOR };
         (d > 0.0).then(|| -(d * d) / q)
     }
 }
@@ -192,7 +189,7 @@ fn curvature(i: &Before, j: &Before, entry: f64, agree: bool) -> f64 {
 /// The step of a pair before it is clipped.
 pub(crate) fn delta(i: &Before, j: &Before, entry: f64, agree: bool) -> f64 {
     let q = curvature(i, j, entry, agree);
-    let q = if q <= 0.0 { FLOOR } else { q };
+    let q = if q <= 0.0 { USUAL_FLOOR } else { q };
     match agree {
         true => (i.gradient - j.gradient) / q,
         false => -(i.gradient + j.gradient) / q,

@@ -7,6 +7,7 @@ fn options(shrinking: bool) -> Options {
         eps: 0.0,
         shrinking,
         budget: 100,
+        ..Options::default()
     }
 }
 

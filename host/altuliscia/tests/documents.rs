@@ -1,5 +1,5 @@
 //! What the documents show is what the files say.
-use altuliscia::{MOST_PASSES, MOST_SAMPLES, STACK_BYTES, SUPPORT_LIMIT};
+use altuliscia::{MOST_PASSES, MOST_SAMPLES, STACK_BYTES, SUPPORT_LIMIT, USUAL_FLOOR};
 
 #[test]
 fn constants_are_the_headers() {
@@ -17,6 +17,8 @@ fn constants_are_the_headers() {
     let limit: f64 = defined("ALTULISCIA_SUPPORT_LIMIT").parse().unwrap();
     assert_eq!(limit.to_bits(), SUPPORT_LIMIT.to_bits());
     assert_eq!(limit, 100.0 * f64::EPSILON);
+    let floor: f64 = defined("ALTULISCIA_USUAL_FLOOR").parse().unwrap();
+    assert_eq!(floor.to_bits(), USUAL_FLOOR.to_bits());
 }
 
 /// The lines of the README between a fence of that kind and its end, without their indent.

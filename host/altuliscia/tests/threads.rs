@@ -15,6 +15,7 @@ fn all_fits(seed: usize) -> String {
         eps: 0.001,
         shrinking: seed % 4 != 0,
         budget: 300,
+        floor: [1e-10, 1e-12, 1.0][seed % 3],
     };
     let off = Options {
         shrinking: false,

@@ -1,7 +1,7 @@
 //! The words of a call.
 use crate::problem::Samples;
 use crate::{help, Trouble};
-use altuliscia::MOST_PASSES;
+use altuliscia::{MOST_PASSES, USUAL_FLOOR};
 use std::num::IntErrorKind;
 use std::str::FromStr;
 
@@ -37,6 +37,7 @@ pub struct Settings {
     /// The name of a file with a caption for each sample.
     pub captions: Option<String>,
     pub budget: u64,
+    pub floor: f64,
     pub quiet: bool,
 }
 
@@ -52,6 +53,7 @@ impl Settings {
         sample: None,
         captions: None,
         budget: MOST_PASSES,
+        floor: USUAL_FLOOR,
         quiet: false,
     };
 
@@ -158,6 +160,9 @@ fn fits_together(command: Command, s: &Settings) -> Result<(), Trouble> {
         (true, _) if s.shrinking => usage(
             "-h 1: with shrinking on samples move, so a trail is told with -h 0 only".to_string(),
         ),
+        (true, _) if s.floor != USUAL_FLOOR && s.floor > 0.0 && s.floor <= 1.0 => usage(
+            "--floor: a trail is told with the usual one only, 1e-10; where every curvature is above 0 no floor has a say".to_string(),
+        ),
         _ => Ok(()),
     }
 }
@@ -176,7 +181,7 @@ fn passes(option: &str, value: &str) -> Result<u64, Trouble> {
 }
 
 fn has_value(option: &str) -> bool {
-    let known = ["-s", "-t", "-c", "-n", "-e", "-h", "--budget"];
+    let known = ["-s", "-t", "-c", "-n", "-e", "-h", "--budget", "--floor"];
     let named = ["--retired", "--sample", "--captions"];
     known.contains(&option) || named.contains(&option) || option.starts_with("-w")
 }
@@ -205,6 +210,7 @@ fn set(s: &mut Settings, option: &str, value: &str) -> Result<(), Trouble> {
             }
         }
         "--budget" => s.budget = passes(option, value)?,
+        "--floor" => s.floor = float()?,
         "--retired" if s.retired.is_some() => {
             return usage("--retired: it is there twice; one list has them all".to_string())
         }
@@ -241,11 +247,12 @@ mod tests {
 
     #[test]
     fn options_are_read() {
-        let c = call("train -s 1 -t 4 -c 2 -n 0.25 -e 1e-7 -h 1 -w-1 3 -w2 0.5 --budget 9 -q some/where/a.txt");
+        let c = call("train -s 1 -t 4 -c 2 -n 0.25 -e 1e-7 -h 1 -w-1 3 -w2 0.5 --budget 9 --floor 1e-12 -q some/where/a.txt");
         assert_eq!((c.command, c.settings.fit), (Command::Train, Fit::Nu));
         let s = &c.settings;
         assert_eq!((s.cost, s.nu, s.eps), (2.0, 0.25, 1e-7));
         assert_eq!((s.shrinking, s.budget, s.quiet), (true, 9, true));
+        assert_eq!(s.floor, 1e-12);
         assert_eq!(s.weights, [(-1, 3.0), (2, 0.5)]);
         assert_eq!(
             (c.file.as_str(), c.model_path().as_str()),
@@ -269,12 +276,14 @@ mod tests {
         let s = call("train a").settings;
         assert_eq!((s.fit, s.cost, s.nu, s.eps), (Fit::C, 1.0, 0.5, 0.001));
         assert_eq!((s.shrinking, s.budget), (false, 10_000_000));
+        assert_eq!(s.floor, 1e-10);
         for told in [
             "usually 1)",
             "usually 0.5)",
             "usually 0.001)",
             "usually 0: off)",
             "usually 10000000)",
+            "usually 1e-10,",
         ] {
             assert!(help::TRAIN.contains(told), "{}", told);
         }
@@ -299,6 +308,12 @@ mod tests {
             (
                 "train a --budget -1",
                 "--budget: '-1' is not a whole number from 0 on",
+            ),
+            ("train a --floor", "--floor: its value is missing"),
+            ("train a --floor x", "--floor: 'x' is not a number"),
+            (
+                "check a --floor 1e-10x",
+                "--floor: '1e-10x' is not a number",
             ),
             (
                 "train a -wx 1",
@@ -326,6 +341,10 @@ mod tests {
             (
                 "trail --sample 1 -h 1 a",
                 "-h 1: with shrinking on samples move, so a trail is told with -h 0 only",
+            ),
+            (
+                "trail --sample 1 --floor 1e-12 a",
+                "--floor: a trail is told with the usual one only, 1e-10; where every curvature is above 0 no floor has a say",
             ),
             (
                 "trail --sample 1 --retired 2 -s 2 a",
@@ -366,6 +385,7 @@ mod tests {
             "-e",
             "-h",
             "--budget",
+            "--floor",
             "--retired",
             "--sample",
             "--captions",

@@ -10,7 +10,7 @@ fn limit() -> f64 {
     2.0_f64.powi(1000)
 }
 
-/// Every fault, by the number and index of its refusal, and what is wrong with the list of retired samples where refusal 12 would stand.
+/// Every fault, in the order of the refusals and by index, and what is wrong with the list of retired samples where refusal 12 would stand.
 /// Without such a list the first is what the library would answer.
 pub fn faults(
     s: &Samples,
@@ -19,6 +19,7 @@ pub fn faults(
     listed: Vec<Trouble>,
 ) -> Vec<Trouble> {
     let mut all = given(s, settings, ceilings);
+    all.extend(of_settings(settings));
     all.extend(listed);
     if settings.retired.is_some() && settings.shrinking {
         let place = "-h 1 beside --retired (leave -h 1 out)".to_string();
@@ -27,7 +28,7 @@ pub fn faults(
     all
 }
 
-/// The faults of refusals 1 to 10.
+/// The faults of refusals 1 to 5.
 fn given(s: &Samples, settings: &Settings, ceilings: (f64, f64)) -> Vec<Trouble> {
     let mut all = Vec::new();
     let two = settings.fit != Fit::OneClass;
@@ -58,10 +59,18 @@ fn given(s: &Samples, settings: &Settings, ceilings: (f64, f64)) -> Vec<Trouble>
             );
         }
     }
+    all
+}
+
+/// The faults of refusals 8, 9, 10 and 14.
+fn of_settings(settings: &Settings) -> Vec<Trouble> {
+    let mut all = Vec::new();
+    let mut add = |refusal: Refusal, place: String| all.push(Trouble::Refused(place, refusal));
+    let part = |x: f64| x > 0.0 && x <= 1.0;
     if !settings.eps.is_finite() || settings.eps.is_sign_negative() {
         add(Refusal::Eps, format!("-e {}", double(settings.eps)));
     }
-    if settings.fit != Fit::C && !(settings.nu > 0.0 && settings.nu <= 1.0) {
+    if settings.fit != Fit::C && !part(settings.nu) {
         add(Refusal::Nu, format!("-n {}", double(settings.nu)));
     }
     if settings.budget == 0 || settings.budget > MOST_PASSES {
@@ -74,6 +83,10 @@ fn given(s: &Samples, settings: &Settings, ceilings: (f64, f64)) -> Vec<Trouble>
             Refusal::Budget,
             format!("--budget {}{}", settings.budget, more),
         );
+    }
+    if !part(settings.floor) {
+        let place = format!("--floor {}", double(settings.floor));
+        add(Refusal::Floor, place);
     }
     all
 }
@@ -202,7 +215,12 @@ mod tests {
             1.0000000000000002,
         ];
         let mut drawn = Drawn(1);
-        let mut counts = [0; 14];
+        let mut counts = [0; 15];
+        // The order of the refusals.
+        let place = |(number, index): &(u64, u64)| match number {
+            14 => (11, 0),
+            _ => (*number, *index),
+        };
         for _ in 0..20_000 {
             let n = drawn.below(5) as usize;
             let size = n * n + usize::from(drawn.below(20) == 0);
@@ -215,6 +233,7 @@ mod tests {
                 eps: drawn.mostly(0.001, &strange),
                 shrinking: drawn.below(2) == 0,
                 budget: [1, 0, 10, 10, 10, 10_000_001][drawn.below(6) as usize],
+                floor: drawn.mostly(1e-10, &strange),
                 ..Settings::USUAL
             };
             if t.fit == Fit::C && drawn.below(2) == 0 {
@@ -227,10 +246,11 @@ mod tests {
             let theirs = theirs.filter(|r| *r != Refusal::ShrunkAway);
             let theirs = theirs.map(|r| (r.number(), r.index()));
             assert_eq!(all.first(), theirs.as_ref(), "{:?} {:?} {:?}", s, t, c);
-            assert!(all.windows(2).all(|w| w[0] < w[1]), "{:?}", all);
+            let in_order = |w: &[(u64, u64)]| place(&w[0]) < place(&w[1]);
+            assert!(all.windows(2).all(in_order), "{:?}", all);
             counts[theirs.map_or(0, |(number, _)| number) as usize] += 1;
         }
-        for number in [0, 1, 2, 3, 5, 8, 9, 10, 13] {
+        for number in [0, 1, 2, 3, 5, 8, 9, 10, 13, 14] {
             assert!(counts[number] > 20, "{:?}", counts);
         }
     }
@@ -242,6 +262,7 @@ mod tests {
             eps: -0.0,
             nu: 0.0,
             budget: 0,
+            floor: 1.0000000000000002,
             ..Settings::USUAL
         };
         assert_eq!(
@@ -254,7 +275,8 @@ mod tests {
                 (5, 0),
                 (5, 1),
                 (8, 0),
-                (10, 0)
+                (10, 0),
+                (14, 0)
             ]
         );
         let all = faults(&s, &t, (1.0, 1.0), Vec::new());
@@ -267,7 +289,8 @@ mod tests {
                 "a: byte 48",
                 "a: byte 49",
                 "-e -0.0",
-                "--budget 0"
+                "--budget 0",
+                "--floor 1.0000000000000002"
             ]
         );
     }
@@ -291,10 +314,11 @@ mod tests {
     }
 
     #[test]
-    fn what_is_wrong_with_the_list_stands_between_10_and_13() {
+    fn what_is_wrong_with_the_list_stands_between_14_and_13() {
         let s = samples(1, vec![1.0], vec![1]);
         let t = Settings {
             budget: 0,
+            floor: f64::NAN,
             shrinking: true,
             retired: Some("9".to_string()),
             ..Settings::USUAL
@@ -302,6 +326,6 @@ mod tests {
         let listed = vec![Trouble::Usage("a list".to_string())];
         let all = faults(&s, &t, (1.0, 1.0), listed);
         let statuses: Vec<u8> = all.iter().map(Trouble::status).collect();
-        assert_eq!(statuses, [20, 2, 23]);
+        assert_eq!(statuses, [20, 24, 2, 23]);
     }
 }

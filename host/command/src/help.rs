@@ -7,7 +7,7 @@ macro_rules! statuses {
     () => {
         "Exit status: 0 done, 2 the words make no sense, 3 a file can't be read, or holds no problem, no list
 of serial numbers or no captions, 4 something can't be written, 5 a trail isn't what the library
-answers, which is a fault of this program, 10 + N the library's refusal N (11 to 23). What was wrong
+answers, which is a fault of this program, 10 + N the library's refusal N (11 to 24). What was wrong
 is told on standard error.
 "
     };
@@ -38,6 +38,10 @@ Options, named as svm-train's where they mean the same:
               it is off, since with -h 1 a run may end in refusal 11, and a model may sort worse
               (docs/CAPTIONS.md)
   --budget N  the most passes, 1 to 10000000 (usually 10000000)
+  --floor X   stands for the curvature of a pair where that isn't above 0: above 0 and not above 1,
+              else it is refusal 14 (usually 1e-10, as in linfa-svm; svm-train has 1e-12). A smaller
+              one takes longer steps along flat directions; where every curvature is above 0 it has
+              no say. With another one than the usual there is no trail
   --retired LIST
               trains without the samples that were withdrawn, for -s 0 with -h 0. They stay in FILE,
               so every sample keeps its number. LIST has their serial numbers, as 20,31; or it is
@@ -83,8 +87,9 @@ pub const TRAIN: &str = concat!(
 Trains the problem of FILE, writes a model file and says how the run ended: the lines that
 svm-train ends with, the exit reason (threshold: no pair is left to mend, with -h 1: among the
 samples still active; iterations: the budget ran out), and a note where the model is worse than it
-looks; with --retired also who is retired. nSV counts the weights above 100*2^-52 in magnitude, and
-nBSV those of them that are at their ceiling or above it.
+looks; with --retired also who is retired, with --floor a floor that isn't the usual one.
+nSV counts the weights above 100*2^-52 in magnitude, and nBSV those of them that are at their
+ceiling or above it.
 With -q only the notes, and the exit reason where it is iterations, are told.
 
 MODEL is what LIBSVM's svm-predict reads for a precomputed kernel. Where it isn't named it is
@@ -104,9 +109,11 @@ pub const WEIGHTS: &str = concat!(
 Trains the problem of FILE and lists every sample: its number from 0 on, its serial number in
 FILE, its label, its own weight (signed by its class), `at` where the weight is at its ceiling,
 `above` where it is above it, `retired` where the sample is retired (then its weight is 0), and
-what the Rust crate linfa-svm says where that is another weight.
-The exit reason, rho and the notes of `train` are told on standard error, and who is retired; with
--q only the notes, and the exit reason where it is iterations. No file is written.
+what the Rust crate linfa-svm says, or would say with another floor, where that is another
+weight.
+The exit reason, rho and the notes of `train` are told on standard error, and who is retired, and a
+floor that isn't the usual one; with -q only the notes, and the exit reason where it is iterations.
+No file is written.
 
 ",
     options!(),
@@ -135,9 +142,9 @@ The list is made by a replay of the run and compared with the library's own call
 steps one whose budget ends before it and one whose budget ends with it, and the whole run. All
 weights must be the same, bit for bit; else nothing but that is told (status 5). Gradients, steps
 and who is first are the replay's: no call tells them. Each time that the sample was chosen takes
-two trainings. There is no trail with -h 1. The exit reason, rho and the notes of `train` are told
-on standard error, and who is retired; with -q only the notes, and the exit reason where it is
-iterations. No file is written.
+two trainings. There is no trail with -h 1, nor with another floor than 1e-10. The exit reason, rho
+and the notes of `train` are told on standard error, and who is retired; with -q only the notes, and
+the exit reason where it is iterations. No file is written.
 
 ",
     options!(),

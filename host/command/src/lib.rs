@@ -133,6 +133,7 @@ fn options(settings: &Settings) -> Options {
         eps: settings.eps,
         shrinking: settings.shrinking,
         budget: settings.budget,
+        floor: settings.floor,
     }
 }
 

@@ -2,7 +2,7 @@
 use crate::arguments::{Fit, Settings};
 use crate::model::{double, listed};
 use crate::problem::Samples;
-use altuliscia::{Answer, ExitReason, SUPPORT_LIMIT};
+use altuliscia::{Answer, ExitReason, SUPPORT_LIMIT, USUAL_FLOOR};
 use std::cmp::Ordering;
 
 /// A double as `%f` of C writes it, but for what would have more than sixteen digits before the point.
@@ -69,6 +69,7 @@ pub fn summary(s: &Samples, settings: &Settings, ceilings: (f64, f64), a: &Answe
     }
     lines.extend(uncounted(a));
     lines.extend(retired(s));
+    lines.extend(floor(settings));
     lines.push(ended(settings, a));
     lines.extend(notes(s, settings, a));
     lines.join("\n") + "\n"
@@ -104,6 +105,7 @@ pub fn beside(s: &Samples, settings: &Settings, a: &Answer) -> String {
     if !settings.quiet {
         lines.push(format!("rho = {}", double(a.rho)));
         lines.extend(retired(s));
+        lines.extend(floor(settings));
     }
     lines.extend(notes(s, settings, a));
     lines.into_iter().map(|line| line + "\n").collect()
@@ -122,6 +124,12 @@ fn retired(s: &Samples) -> Option<String> {
         )
     };
     (!serials.is_empty()).then(told)
+}
+
+/// The floor, where it isn't the usual one.
+fn floor(settings: &Settings) -> Option<String> {
+    let told = || format!("floor = {}", double(settings.floor));
+    (settings.floor != USUAL_FLOOR).then(told)
 }
 
 fn ended(settings: &Settings, a: &Answer) -> String {
@@ -152,8 +160,14 @@ fn notes(s: &Samples, settings: &Settings, a: &Answer) -> Vec<String> {
     let parted = (0..s.n).filter(|k| differs(a, *k)).count();
     if parted > 0 {
         notes.push(format!(
-            "note: {} of {} samples have another weight in the list that linfa-svm answers; the model has each sample's own",
-            parted, s.n
+            "note: {} of {} samples have another weight in the list that linfa-svm {}; the model has each sample's own",
+            parted,
+            s.n,
+            if settings.floor == USUAL_FLOOR {
+                "answers"
+            } else {
+                "would answer with this floor"
+            }
         ));
     }
     if settings.shrinking {
@@ -167,8 +181,15 @@ fn notes(s: &Samples, settings: &Settings, a: &Answer) -> Vec<String> {
 
 /// A line for each sample, with the crate's reading where it is another.
 pub fn weights(s: &Samples, settings: &Settings, ceilings: (f64, f64), a: &Answer) -> String {
-    let mut lines =
-        vec!["sample serial  label  weight                    ceiling  linfa-svm says".to_string()];
+    let says = if settings.floor == USUAL_FLOOR {
+        "linfa-svm says"
+    } else {
+        "linfa-svm would say"
+    };
+    let mut lines = vec![format!(
+        "sample serial  label  weight                    ceiling  {}",
+        says
+    )];
     for k in 0..s.n {
         let other = if differs(a, k) {
             double(a.crate_reading[k])

@@ -306,6 +306,7 @@ fn each_refusal_has_its_status_and_writes_nothing() {
         (9, good.to_vec(), "-s 1 -n 0"),
         (10, good.to_vec(), "--budget 0"),
         (11, shrunk.into_bytes(), "-h 1 -e 1e-7"),
+        (14, good.to_vec(), "--floor 0"),
     ] {
         let (path, model) = (file(&f, "file", &data), file(&f, "model", b"old"));
         let trouble = told(&format!("train {} FILE MODEL", options), &path, &model).unwrap_err();

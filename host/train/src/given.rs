@@ -11,7 +11,7 @@ pub struct Given {
     pub labels: Vec<bool>,
 }
 
-const NAMES: [&str; 14] = [
+const NAMES: [&str; 15] = [
     "fit",
     "n",
     "matrix",
@@ -26,6 +26,7 @@ const NAMES: [&str; 14] = [
     "eps",
     "shrinking",
     "budget",
+    "floor",
 ];
 
 impl Given {
@@ -108,6 +109,7 @@ impl Given {
             eps: self.one_or("eps", usual.eps)?,
             shrinking: self.flag("shrinking")?,
             budget: self.one_or("budget", usual.budget)?,
+            floor: self.one_or("floor", usual.floor)?,
         })
     }
 
@@ -197,5 +199,18 @@ mod tests {
         assert_eq!(refused("cneg       2", "cneg       0").number(), 5);
         assert_eq!(refused("  20 15", "  NaN 15").number(), 3);
         assert_eq!(refused("  20 15", "  15").number(), 2);
+        assert_eq!(refused("\nbudget", "\nfloor 0\nbudget").number(), 14);
+    }
+
+    /// Two samples that are alike but for their label.
+    #[test]
+    fn a_floor_is_taken() {
+        let steps = |floor: &str| {
+            let text = "fit c\nn 2\nmatrix 1 1 1 1\nlabels 1 0\ncpos 1e12\ncneg 1e12\n";
+            let given = Given::read(&format!("{}{}", text, floor)).unwrap();
+            given.fit().unwrap().unwrap().iterations
+        };
+        assert_eq!((steps(""), steps("floor 1e-10")), (50, 50));
+        assert_eq!(steps("floor 1e-12"), 1);
     }
 }

@@ -20,7 +20,8 @@ with a space goes on with the line before, and # begins a comment.
   ceilings, alphas, linear, nu-rule (on or off)   (general)
   eps        the threshold; 1e-7 where it isn't there
   shrinking  on or off; off where it isn't there
-  budget     the most passes; 10000000 where it isn't there";
+  budget     the most passes; 10000000 where it isn't there
+  floor      stands for a curvature that isn't above 0; 1e-10 where it isn't there";
 
 fn main() -> ExitCode {
     let words: Vec<String> = std::env::args().skip(1).collect();

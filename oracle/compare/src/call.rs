@@ -4,20 +4,37 @@ pub mod functions;
 
 use crate::lent::{flag, resize, Lent};
 use functions::{
-    altuliscia_c, altuliscia_general, altuliscia_nu, altuliscia_one_class, altuliscia_retired,
+    altuliscia_c, altuliscia_c_tuned, altuliscia_general, altuliscia_general_tuned, altuliscia_nu,
+    altuliscia_nu_tuned, altuliscia_one_class, altuliscia_one_class_tuned, altuliscia_retired,
 };
 use oracle::judge::Refusal;
 use oracle::problem::{Entry, Problem, MOST_SAMPLES};
 use oracle::random::Random;
 use oracle::run::{canonical, solve, Answer, Events, Outcome, Reason};
 
-pub const ANSWER: usize = 72;
-/// The longest tuning that is lent, in bytes. None but the empty one is accepted.
+/// How many bytes an answer takes, and how many that of a function that is named after its tuning.
+const ANSWER: usize = 72;
+const TUNED_ANSWER: usize = 128;
+/// The longest tuning that is lent, in bytes.
 const MOST_TUNING: usize = 24;
+/// How many bytes the known words of a tuning take.
+const WORDS: usize = 8;
+/// Lengths of a tuning that are refused: next to those that aren't, and a word more.
+pub const REFUSED_LENGTHS: [usize; 4] = [1, 7, 9, 16];
+
+/// What is lent as a tuning.
+#[derive(Clone, Copy, PartialEq)]
+pub enum Tuning {
+    /// Nothing, to the function that takes none; with retired samples there is no such function, and it is empty.
+    Without,
+    Empty,
+    Floor,
+}
 
 /// One call: the problem, and each list as its bytes are lent.
 pub struct Call {
     pub p: Problem,
+    lends: Tuning,
     pub matrix: Lent,
     labels: Lent,
     ceilings: Lent,
@@ -80,19 +97,48 @@ fn room(g: &mut Random, places: u64, short: bool) -> Lent {
     }
 }
 
+/// How many bytes of tuning are lent: those that are asked for, or any other number but what is known.
+fn tuning_len(g: &mut Random, spoiled: Spoiled, lends: Tuning) -> usize {
+    match (spoiled, lends) {
+        (Spoiled::Tuning, _) if g.coin() => g.pick(&REFUSED_LENGTHS),
+        (Spoiled::Tuning, _) => {
+            let len = 1 + g.place(MOST_TUNING - 1);
+            len + usize::from(len >= WORDS)
+        }
+        (_, Tuning::Floor) => WORDS,
+        _ => 0,
+    }
+}
+
+fn answer_bytes(entry: Entry, lends: Tuning) -> usize {
+    if entry == Entry::Retired || lends == Tuning::Without {
+        ANSWER
+    } else {
+        TUNED_ANSWER
+    }
+}
+
 impl Call {
-    pub fn new(g: &mut Random, mut p: Problem, spoiled: Spoiled) -> Call {
+    /// One without a tuning.
+    pub fn new(g: &mut Random, p: Problem, spoiled: Spoiled) -> Call {
+        Call::tuned(g, p, spoiled, Tuning::Without)
+    }
+
+    /// The problem's floor has to be the usual one where it isn't lent.
+    pub fn tuned(g: &mut Random, mut p: Problem, spoiled: Spoiled, lends: Tuning) -> Call {
         let one = if g.coin() { 1 } else { -1 };
         let more = |what: Spoiled| if what == spoiled { one } else { 0 };
         resize(&mut p.matrix, more(Spoiled::Matrix));
         resize(&mut p.labels, more(Spoiled::Labels));
         resize(&mut p.retired, more(Spoiled::Retired));
+        let least = answer_bytes(p.entry, lends);
         let answer_len = match (spoiled == Spoiled::Answer, g.below(4)) {
-            (true, _) => g.place(ANSWER),
-            (_, 0) => ANSWER + 1 + g.place(40),
-            _ => ANSWER,
+            (true, _) => g.place(least),
+            (_, 0) => least + 1 + g.place(40),
+            _ => least,
         };
         let mut call = Call {
+            lends,
             matrix: Lent::holding(g, &p.matrix),
             labels: Lent::holding(g, &p.labels),
             ceilings: Lent::floats(g, &p.ceilings, more(Spoiled::Ceilings)),
@@ -108,14 +154,23 @@ impl Call {
             p,
         };
         if call.p.entry == Entry::Retired {
-            let tuning = match spoiled {
-                Spoiled::Tuning => 1 + g.place(MOST_TUNING),
-                _ => 0,
-            };
             call.retired = Lent::holding(g, &call.p.retired);
-            call.tuning = Lent::new(g, tuning);
+        }
+        if call.takes_tuning() {
+            let mut bytes = call.p.floor.to_bits().to_le_bytes().to_vec();
+            bytes.resize(tuning_len(g, spoiled, lends), 0);
+            call.tuning = Lent::holding(g, &bytes);
         }
         call
+    }
+
+    fn takes_tuning(&self) -> bool {
+        self.p.entry == Entry::Retired || self.lends != Tuning::Without
+    }
+
+    /// How many bytes its answer takes.
+    pub fn answer_bytes(&self) -> usize {
+        answer_bytes(self.p.entry, self.lends)
     }
 
     /// Whether every list is as long as n asks, in bytes. n is at most 512 here.
@@ -125,11 +180,12 @@ impl Call {
         let floats = [&self.ceilings, &self.alphas, &self.linear];
         (!entry.has_labels() || self.labels.len == n)
             && (!entry.has_lists() || floats.iter().all(|l| l.len == 8 * n))
-            && (entry != Entry::Retired || (self.retired.len == n && self.tuning.len == 0))
+            && (entry != Entry::Retired || self.retired.len == n)
+            && [0, WORDS].contains(&self.tuning.len)
             && self.matrix.len == 8 * n * n
             && self.crate_reading.len >= 8 * n
             && self.home.len >= 8 * n
-            && self.answer.len >= ANSWER
+            && self.answer.len >= self.answer_bytes()
     }
 
     /// What the call must answer. Scratch is the call's own, so it is never short.
@@ -150,12 +206,20 @@ impl Call {
         solve(&p, false)
     }
 
-    #[rustfmt::skip]
     fn make(&mut self) -> u64 {
+        if self.takes_tuning() {
+            self.make_tuned()
+        } else {
+            self.make_untuned()
+        }
+    }
+
+    #[rustfmt::skip]
+    fn make_untuned(&mut self) -> u64 {
         let p = &self.p;
         let n = p.n as usize;
         let (eps, nu) = (p.eps.to_bits(), p.nu.to_bits());
-        let (m, l, r, t) = (&mut self.matrix, &mut self.labels, &mut self.retired, &mut self.tuning);
+        let (m, l) = (&mut self.matrix, &mut self.labels);
         let (c, h, a) = (&mut self.crate_reading, &mut self.home, &mut self.answer);
         // each pointer has its length beside it, and nothing that is written overlaps
         unsafe {
@@ -164,10 +228,6 @@ impl Call {
                     self.ceilings.ptr(), self.ceilings.len, self.alphas.ptr(), self.alphas.len,
                     self.linear.ptr(), self.linear.len, self.nu_rule, eps, self.shrinking, p.budget,
                     c.ptr(), c.len, h.ptr(), h.len, a.ptr(), a.len),
-                Entry::Retired => altuliscia_retired(n, m.ptr(), m.len, l.ptr(), l.len,
-                    self.ceilings.ptr(), self.ceilings.len, self.alphas.ptr(), self.alphas.len,
-                    self.linear.ptr(), self.linear.len, r.ptr(), r.len, self.nu_rule, eps, self.shrinking, p.budget,
-                    t.ptr(), t.len, c.ptr(), c.len, h.ptr(), h.len, a.ptr(), a.len),
                 Entry::C => altuliscia_c(n, m.ptr(), m.len, l.ptr(), l.len,
                     p.cpos.to_bits(), p.cneg.to_bits(), eps, self.shrinking, p.budget,
                     c.ptr(), c.len, h.ptr(), h.len, a.ptr(), a.len),
@@ -177,6 +237,38 @@ impl Call {
                 Entry::OneClass => altuliscia_one_class(n, m.ptr(), m.len,
                     nu, eps, self.shrinking, p.budget,
                     c.ptr(), c.len, h.ptr(), h.len, a.ptr(), a.len),
+                Entry::Retired => unreachable!("its function takes a tuning"),
+            }
+        }
+    }
+
+    #[rustfmt::skip]
+    fn make_tuned(&mut self) -> u64 {
+        let p = &self.p;
+        let n = p.n as usize;
+        let (eps, nu) = (p.eps.to_bits(), p.nu.to_bits());
+        let (m, l, r, t) = (&mut self.matrix, &mut self.labels, &mut self.retired, &mut self.tuning);
+        let (c, h, a) = (&mut self.crate_reading, &mut self.home, &mut self.answer);
+        // as above
+        unsafe {
+            match p.entry {
+                Entry::General => altuliscia_general_tuned(n, m.ptr(), m.len, l.ptr(), l.len,
+                    self.ceilings.ptr(), self.ceilings.len, self.alphas.ptr(), self.alphas.len,
+                    self.linear.ptr(), self.linear.len, self.nu_rule, eps, self.shrinking, p.budget,
+                    t.ptr(), t.len, c.ptr(), c.len, h.ptr(), h.len, a.ptr(), a.len),
+                Entry::Retired => altuliscia_retired(n, m.ptr(), m.len, l.ptr(), l.len,
+                    self.ceilings.ptr(), self.ceilings.len, self.alphas.ptr(), self.alphas.len,
+                    self.linear.ptr(), self.linear.len, r.ptr(), r.len, self.nu_rule, eps, self.shrinking, p.budget,
+                    t.ptr(), t.len, c.ptr(), c.len, h.ptr(), h.len, a.ptr(), a.len),
+                Entry::C => altuliscia_c_tuned(n, m.ptr(), m.len, l.ptr(), l.len,
+                    p.cpos.to_bits(), p.cneg.to_bits(), eps, self.shrinking, p.budget,
+                    t.ptr(), t.len, c.ptr(), c.len, h.ptr(), h.len, a.ptr(), a.len),
+                Entry::Nu => altuliscia_nu_tuned(n, m.ptr(), m.len, l.ptr(), l.len,
+                    nu, eps, self.shrinking, p.budget,
+                    t.ptr(), t.len, c.ptr(), c.len, h.ptr(), h.len, a.ptr(), a.len),
+                Entry::OneClass => altuliscia_one_class_tuned(n, m.ptr(), m.len,
+                    nu, eps, self.shrinking, p.budget,
+                    t.ptr(), t.len, c.ptr(), c.len, h.ptr(), h.len, a.ptr(), a.len),
             }
         }
     }
@@ -213,10 +305,13 @@ impl Call {
             Outcome::Refused(r) => [r.number, r.index, 0, 0, 0, 0, 0, 0, 0],
             Outcome::Fault(_) => [u64::MAX; 9],
         };
-        if self.answer.len < ANSWER {
+        let bytes = self.answer_bytes();
+        if self.answer.len < bytes {
             return;
         }
-        for (k, word) in fields.into_iter().enumerate() {
+        // what a longer answer has behind those fields is 0
+        let words = fields.into_iter().chain(std::iter::repeat(0));
+        for (k, word) in words.take(bytes / 8).enumerate() {
             self.answer.put(k, word);
         }
     }
@@ -247,7 +342,7 @@ impl Call {
         differing.next().map(|(_, name)| name)
     }
 
-    /// The words that a call has written: so many places of each reading, and the answer.
+    /// The words that a call has written: so many places of each reading, and the answer's fields.
     pub fn written(&self, places: usize) -> Vec<u64> {
         let mut all = self.crate_reading.words(places);
         all.extend(self.home.words(places));

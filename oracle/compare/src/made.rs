@@ -1,5 +1,5 @@
 //! What is counted of calls that are made and compared.
-use crate::call::{Call, ANSWER};
+use crate::call::Call;
 use crate::reached::Reached;
 use oracle::problem::Entry;
 use oracle::run::Answer;
@@ -20,8 +20,8 @@ impl Made {
     pub fn call(&mut self, seed: u64, call: &mut Call) -> Answer {
         let (answer, differs) = call.compare();
         let zeros = self.reached.add(&call.p, &answer);
-        self.short_answer += u64::from(call.answer.len < ANSWER);
-        self.long_answer += u64::from(call.answer.len > ANSWER);
+        self.short_answer += u64::from(call.answer.len < call.answer_bytes());
+        self.long_answer += u64::from(call.answer.len > call.answer_bytes());
         self.odd += u64::from(call.matrix.is_odd() || call.home.is_odd() || call.answer.is_odd());
         self.null += u64::from(call.matrix.null || call.home.null || call.answer.null);
         self.large += u64::from(answer.accepted().is_some() && call.p.n >= 64);
@@ -33,8 +33,8 @@ impl Made {
     pub fn tell(&mut self, seed: u64, call: &Call, differs: Option<&str>) {
         if let Some(what) = differs {
             self.differ += 1;
-            let (name, budget) = (call.p.entry.name(), call.p.budget);
-            println!("seed {seed}, {name}, budget {budget}: {what}");
+            let (name, budget, floor) = (call.p.entry.name(), call.p.budget, call.p.floor);
+            println!("seed {seed}, {name}, budget {budget}, floor {floor:?}: {what}");
         }
     }
 

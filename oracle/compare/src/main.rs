@@ -10,6 +10,7 @@ mod reached;
 mod recorded;
 mod retired;
 mod trial;
+mod tuned;
 mod zeros;
 
 use std::process::ExitCode;
@@ -28,6 +29,9 @@ compare faint FIRST LAST
 compare pair FIRST LAST
     the C function of a single step, on each step of the problems of the seeds FIRST to LAST, drawn as for c and as for faint, and on
     chosen numbers: the two weights, every other byte, and lists that are too short
+compare tuned FIRST LAST
+    the five C functions that take a tuning, on problems with floors of their own, likewise; and each call again at the usual floor: by
+    the functions without a tuning, with an empty one and with 1e-10 the same bytes must be written
 compare recorded FILE
     the proved run by itself, on the recorded general problems: order and weights by position, rho, r, obj, iterations, reason,
     refusal 11, and after each pass that is recorded the weights of its pair; and the C function on those with retired samples
@@ -47,6 +51,9 @@ fn main() -> ExitCode {
         }
         ["faint", first, last] => {
             both(first, last).map(|(first, last)| faint::compare(first, last))
+        }
+        ["tuned", first, last] => {
+            both(first, last).map(|(first, last)| tuned::compare(first, last))
         }
         ["pair", first, last] => both(first, last).map(|(first, last)| pair::compare(first, last)),
         ["recorded", file] => recorded::compare(file),

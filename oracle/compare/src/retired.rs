@@ -5,7 +5,7 @@ use crate::made::Made;
 use crate::reached::tell;
 use oracle::draw::{draw_big, redraw_retired};
 use oracle::marks::RETIRED;
-use oracle::problem::{Entry, Problem};
+use oracle::problem::{Entry, Problem, BAD_FLOOR};
 use oracle::random::Random;
 use oracle::run::Answer;
 
@@ -62,7 +62,8 @@ impl Counts {
     }
 
     fn counts(&self) -> Vec<(u64, String)> {
-        let refusals: Vec<usize> = Entry::Retired.judged().map(|k| k as usize).collect();
+        let refusals = Entry::Retired.judged().filter(|k| *k != BAD_FLOOR);
+        let refusals: Vec<usize> = refusals.map(|k| k as usize).collect();
         let mut all = self.made.counts(&[Entry::Retired], &refusals);
         for (count, (name, _)) in self.marks.iter().zip(RETIRED) {
             all.push((*count, format!("retired: {name}")));

@@ -14,13 +14,14 @@ pub use solver_smo::{SeparatingHyperplane, SolverParams};
 
 #[rustfmt::skip]
 pub mod classification;
+pub mod floor;
 #[rustfmt::skip]
 #[allow(clippy::all)]
 pub mod permutable_kernel;
 #[rustfmt::skip]
 pub mod regression;
 #[rustfmt::skip]
-#[allow(unused_variables, clippy::all)]
+#[allow(unused_assignments, unused_variables, clippy::all)]
 pub mod solver_smo;
 pub mod watch;
 

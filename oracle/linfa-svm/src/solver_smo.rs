@@ -15,6 +15,7 @@ pub struct SolverParams<F: Float> {
     /// Should we shrink, e.g. ignore bounded alphas
     pub shrinking: bool,
     pub budget: usize, // oracle
+    pub floor: F, // oracle
 }
 
 /// Status of alpha variables of the solver
@@ -262,6 +263,7 @@ impl<'a, F: Float, K: 'a + Permutable<F>> SolverState<'a, F, K> {
                 + (F::one() + F::one()) * dist_i[j];
             if quad_coef <= F::zero() {
                 quad_coef = F::cast(1e-10);
+                quad_coef = crate::floor::at(crate::floor::Place::Differ, self.params.floor); // oracle
             }
 
             let delta = -(self.gradient[i] + self.gradient[j]) / quad_coef;
@@ -297,6 +299,7 @@ impl<'a, F: Float, K: 'a + Permutable<F>> SolverState<'a, F, K> {
                 - F::cast(2.0) * dist_i[j];
             if quad_coef <= F::zero() {
                 quad_coef = F::cast(1e-10);
+                quad_coef = crate::floor::at(crate::floor::Place::Agree, self.params.floor); // oracle
             }
 
             let delta = (self.gradient[i] - self.gradient[j]) / quad_coef;
@@ -477,6 +480,7 @@ impl<'a, F: Float, K: 'a + Permutable<F>> SolverState<'a, F, K> {
                             } else {
                                 -(grad_diff * grad_diff) / F::cast(1e-10)
                             };
+                            let obj_diff = if quad_coef > F::zero() { obj_diff } else { -(grad_diff * grad_diff) / crate::floor::at(crate::floor::Place::CPositive, self.params.floor) }; // oracle
 
                             if obj_diff <= obj_diff_min.0 {
                                 obj_diff_min = (obj_diff, j as isize);
@@ -498,6 +502,7 @@ impl<'a, F: Float, K: 'a + Permutable<F>> SolverState<'a, F, K> {
                         } else {
                             -(grad_diff * grad_diff) / F::cast(1e-10)
                         };
+                        let obj_diff = if quad_coef > F::zero() { obj_diff } else { -(grad_diff * grad_diff) / crate::floor::at(crate::floor::Place::CNegative, self.params.floor) }; // oracle
                         if obj_diff <= obj_diff_min.0 {
                             obj_diff_min = (obj_diff, j as isize);
                         }
@@ -557,6 +562,7 @@ impl<'a, F: Float, K: 'a + Permutable<F>> SolverState<'a, F, K> {
                         } else {
                             -(grad_diff * grad_diff) / F::cast(1e-10)
                         };
+                        let obj_diff = if quad_coef > F::zero() { obj_diff } else { -(grad_diff * grad_diff) / crate::floor::at(crate::floor::Place::NuPositive, self.params.floor) }; // oracle
 
                         if obj_diff <= obj_diff_min.0 {
                             obj_diff_min = (obj_diff, j as isize);
@@ -582,6 +588,7 @@ impl<'a, F: Float, K: 'a + Permutable<F>> SolverState<'a, F, K> {
                     } else {
                         -(grad_diff * grad_diff) / F::cast(1e-10)
                     };
+                    let obj_diff = if quad_coef > F::zero() { obj_diff } else { -(grad_diff * grad_diff) / crate::floor::at(crate::floor::Place::NuNegative, self.params.floor) }; // oracle
                     if obj_diff <= obj_diff_min.0 {
                         obj_diff_min = (obj_diff, j as isize);
                     }

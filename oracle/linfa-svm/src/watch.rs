@@ -1,6 +1,7 @@
 //! What the added lines of the solver write down: things that happen in a run
 //! and that its model doesn't hand out. One notebook for each thread.
 
+use crate::floor::Place;
 use crate::Float;
 use std::cell::RefCell;
 
@@ -68,6 +69,8 @@ pub struct Events {
     pub turned_i: [u64; 2],
     /// The same for j.
     pub turned_j: [u64; 2],
+    /// Times each place asked for the floor.
+    pub floored: [u64; Place::ALL.len()],
 }
 
 /// All that one run left in the notebook.
@@ -139,6 +142,10 @@ pub fn turned_i(was_upper: bool) {
 
 pub fn turned_j(was_upper: bool) {
     count(|e| e.turned_j[usize::from(!was_upper)] += 1);
+}
+
+pub fn floored(place: Place) {
+    count(|e| e.floored[place as usize] += 1);
 }
 
 pub fn unshrink(fewer: bool) {

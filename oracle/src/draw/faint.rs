@@ -23,7 +23,7 @@ pub fn draw_faint(seed: u64) -> Problem {
         _ => beyond(g),
     };
     if p.entry == Entry::General && g.one_in(4) {
-        p = retire(g, p);
+        p = retired::retire(g, p);
     }
     budget(g, &mut p);
     spare_room(g, &mut p);
@@ -107,27 +107,13 @@ fn aim(g: &mut Random, p: &mut Problem) {
     let weight = g.pick(&weights);
     let scale = nudged(g, weight) / SUPPORT_LIMIT;
     match p.entry {
-        Entry::C => {
-            p.cpos /= scale;
-            p.cneg /= scale;
-            scale_matrix(p, scale);
-        }
-        Entry::Nu => {
-            p.eps *= scale;
-            scale_matrix(p, scale);
-        }
+        Entry::C | Entry::Nu => scale_kernel(p, scale),
         _ => {
             let lists = [&mut p.ceilings, &mut p.alphas, &mut p.linear];
             for x in lists.into_iter().flatten().chain([&mut p.eps]) {
                 *x /= scale;
             }
         }
-    }
-}
-
-fn scale_matrix(p: &mut Problem, scale: f64) {
-    for (k, x) in p.entries().into_iter().enumerate() {
-        p.set_pattern(k, within_limit(x * scale).to_bits());
     }
 }
 
@@ -173,20 +159,5 @@ fn beyond(g: &mut Random) -> Problem {
         labels(g, n, true)
     };
     p.nu = g.pick(&[0.25, 0.5, 0.75]);
-    p
-}
-
-/// The same with retired samples among its own, or put in between.
-fn retire(g: &mut Random, mut p: Problem) -> Problem {
-    if g.coin() {
-        p = retired::among(g, &p);
-    } else {
-        p.retired = retired::bytes(g, p.n as usize);
-    }
-    p.entry = Entry::Retired;
-    p.shrinking = false;
-    if g.coin() {
-        redraw_retired(g, &mut p);
-    }
     p
 }

@@ -51,7 +51,7 @@ fn general(g: &mut Random) -> Problem {
 }
 
 /// Nobody is retired, or everybody, all but one, one alone, or some.
-pub(super) fn bytes(g: &mut Random, n: usize) -> Vec<u8> {
+fn bytes(g: &mut Random, n: usize) -> Vec<u8> {
     let one = g.place(n);
     match g.below(12) {
         0..=1 => vec![0; n],
@@ -65,7 +65,7 @@ pub(super) fn bytes(g: &mut Random, n: usize) -> Vec<u8> {
 
 /// The samples of p with one to six retired ones in between, which have zeros
 /// and a ceiling of 1 as yet.
-pub(super) fn among(g: &mut Random, p: &Problem) -> Problem {
+fn among(g: &mut Random, p: &Problem) -> Problem {
     let old = p.n as usize;
     let n = old + 1 + g.place(6);
     let mut places: Vec<usize> = (0..n).collect();
@@ -88,8 +88,23 @@ pub(super) fn among(g: &mut Random, p: &Problem) -> Problem {
     for (k, pattern) in p.patterns().enumerate() {
         wide.set_pattern(places[k / old] * n + places[k % old], pattern);
     }
-    (wide.nu_rule, wide.eps) = (p.nu_rule, p.eps);
+    (wide.nu_rule, wide.eps, wide.floor) = (p.nu_rule, p.eps, p.floor);
     wide
+}
+
+/// The same with retired samples among its own, or put in between.
+pub(super) fn retire(g: &mut Random, mut p: Problem) -> Problem {
+    if g.coin() {
+        p = among(g, &p);
+    } else {
+        p.retired = bytes(g, p.n as usize);
+    }
+    p.entry = Entry::Retired;
+    p.shrinking = false;
+    if g.coin() {
+        redraw_retired(g, &mut p);
+    }
+    p
 }
 
 /// The same run at 2^40 times the scale, where that stays within the limits:

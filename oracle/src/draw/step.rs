@@ -8,9 +8,6 @@ use crate::run::Given;
 /// problem that `draw` gives.
 const OWN: u64 = 0x57e9_0f7a_a9a1_2b0d;
 
-/// What stands in for a curvature of at most 0.
-const FLOOR: f64 = 1e-10;
-
 /// The step of a seed.
 pub fn draw_step(seed: u64) -> Given {
     let g = &mut Random::new(seed ^ OWN);
@@ -68,7 +65,7 @@ fn number(g: &mut Random) -> f64 {
     let x = match g.below(12) {
         0..=1 => 0.0,
         2 => g.pick(&[TINY, 1e-300, f64::MIN_POSITIVE]),
-        3 => next_door(g, 1e-10),
+        3 => next_door(g, USUAL_FLOOR),
         4..=5 => next_door(g, 1.0),
         6 => g.pick(&[LIMIT, PAST_LIMIT, f64::MAX]),
         7 => f64::INFINITY,
@@ -77,14 +74,6 @@ fn number(g: &mut Random) -> f64 {
         _ => Kind::any(g).number(g),
     };
     g.either_sign(x)
-}
-
-/// The float, or the next one above or below. A zero stays.
-fn next_door(g: &mut Random, x: f64) -> f64 {
-    if x == 0.0 {
-        return x;
-    }
-    f64::from_bits(x.to_bits() - 1 + g.below(3))
 }
 
 /// Weights at an end of their range, next door, within or outside; the second
@@ -140,7 +129,7 @@ fn aim(g: &mut Random, given: &mut Given) {
     let end = g.pick(&[0.0, ceiling]);
     let way = next_door(g, end - weight);
     let curvature = match given.curvature() {
-        q if q <= 0.0 => FLOOR,
+        q if q <= 0.0 => USUAL_FLOOR,
         q => q,
     };
     // labels that agree: the first weight falls by what the second gains

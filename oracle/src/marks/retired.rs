@@ -1,9 +1,9 @@
 //! What problems with retired samples reach.
 
-use super::is_negative_zero;
+use super::{is_negative_zero, told};
 use crate::judge::{faults, Refusal};
 use crate::problem::{Entry, Problem, LIMIT};
-use crate::run::{canonical, solve, Accepted, Answer, Reason};
+use crate::run::{solve, Accepted, Answer, Reason};
 
 type Test = fn(&Problem, &Answer) -> bool;
 
@@ -53,7 +53,7 @@ pub const RETIRED: &[(&str, Test)] = &[
         })
     }),
     ("another answer if nobody were passed over", |p, w| {
-        run(p, w, |a| passing_tells(p, a))
+        run(p, w, |a| passing_tells(p, w, a))
     }),
     ("rho NaN with somebody left", |p, w| {
         run(p, w, |a| a.rho.is_nan()) && left(p, w, |_, k| k > 0)
@@ -123,7 +123,7 @@ fn gradient(p: &Problem, weights: &[f64], k: usize) -> f64 {
 
 /// Whether the answer would be another with the retired samples left in, at
 /// alpha 0 with linear term 0.
-fn passing_tells(p: &Problem, a: &Accepted) -> bool {
+fn passing_tells(p: &Problem, w: &Answer, a: &Accepted) -> bool {
     let mut q = p.clone();
     q.lend_exactly();
     q.entry = Entry::General;
@@ -132,13 +132,7 @@ fn passing_tells(p: &Problem, a: &Accepted) -> bool {
         q.alphas[k] = 0.0;
         q.linear[k] = 0.0;
     }
-    let told = |a: &Accepted| {
-        let mut all = vec![a.rho, a.r.unwrap_or(0.0), a.obj, a.iterations as f64];
-        all.extend(&a.home);
-        all.into_iter().map(canonical).collect::<Vec<u64>>()
-    };
-    let other = solve(&q, false);
-    other.accepted().map_or(true, |b| told(a) != told(b))
+    told(&solve(&q, false)) != told(w)
 }
 
 /// Whether the offending index is a retired sample's.
@@ -151,6 +145,6 @@ fn at_retired(p: &Problem, r: Refusal) -> bool {
     }
 }
 
-fn refused_before(p: &Problem, w: &Answer, number: u64, later: u64) -> bool {
+pub(super) fn refused_before(p: &Problem, w: &Answer, number: u64, later: u64) -> bool {
     w.refusal().map_or(false, |r| r.number == number) && faults(p).contains(&later)
 }

@@ -1,35 +1,19 @@
-use mathlib.Core.Path.{sym, _∙_}
-use borrow.Author.Tests.{eq-eqb, ne-eqb}
-use Rattle.judge.proofs.Lengths.{room-of}
-use Rattle.classification.specs.Entries.{entered, fitOneClassOf}
 use borrow.Author.Needs.{needs}
 use Rattle.fit_one_class.proofs.fit_one_class.Statement.{statement}
 use Rattle.fit_one_class.proofs.fit_one_class.Tie as tie
 
-sized-requires-2 : tie.Need-sized-requires-2
-sized-requires-2 c κs =
-    let s = c .before .before .before .before .before .before .before .before .before .before .before .before .before in
-    let h = sym (c .before .before .before .before .before .before .sized .ensures) ∙ c .before .before .before .before .before .if1 .taken in
-    room-of _ _ _ _ _ _ _ _ h
-
 returns : tie.Need-returns
-unfolding fitOneClassOf entered
-returns c = rw (← c .before .before .before .before .before .before .before .before .before .before .before .before .before .before .before .before .before .sized .ensures, eq-eqb _ _ (c .before .before .before .before .before .before .before .before .before .before .before .before .before .before .before .before .if1 .taken)) (c .before .before .before .before .before .before .before .before .before .before .sized2 .ensures)
-
-returns-2 : tie.Need-returns-2
-unfolding fitOneClassOf entered
-returns-2 c = rw (← c .before .sized .ensures, ne-eqb _ _ (c .if1 .left))
+returns c = rw (← c .before .before .before .before .before .before .before .before .before .before .before .before .before .before .before .before .plain .ensures) (c .before .before .before .before .before .before .before .before .before .before .fit-one-class-tuned .ensures)
 
 pub fit-one-class-spec : {M : Type 1} → statement M
 fit-one-class-spec =
     tie.close
     (tie.spec
     (λ c κs. search needs)
-    sized-requires-2
+    (λ c κs. search needs)
     (λ c. search needs)
     (λ c. search needs)
     (λ c. search needs)
     (λ c. search needs)
     (λ c. search needs)
-    returns
-    returns-2)
+    returns)

@@ -1,39 +1,19 @@
-use mathlib.Core.Path.{sym, _∙_}
-use denote.Ref.{now}
-use borrow.Author.Tests.{eq-eqb, ne-eqb}
-use lib.ListN.{length}
-use Rattle.judge.proofs.Lengths.{inputs-of, room-of}
-use Rattle.classification.specs.Entries.{entered, generalOf}
-use Rattle.classification.proofs.Laws.{four-long}
 use borrow.Author.Needs.{needs}
 use Rattle.general.proofs.general.Statement.{statement}
 use Rattle.general.proofs.general.Tie as tie
 
-sized-requires-2 : tie.Need-sized-requires-2
-sized-requires-2 c κs =
-    let s = c .before .before .before .before .before .before .before .before .before .before .before .before .before .before .before .before .before in
-    let h = sym (c .before .before .before .before .before .before .sized .ensures) ∙ c .before .before .before .before .before .if1 .taken in
-    let t = four-long (s .args .n) (length (now (s .args .l))) (length (now (s .args .c))) (length (now (s .args .a))) (length (now (s .args .p))) (inputs-of _ _ _ _ _ _ _ _ h) in
-    (room-of _ _ _ _ _ _ _ _ h, t .0, t .1, t .2, t .3)
-
 returns : tie.Need-returns
-unfolding generalOf entered
-returns c = rw (← c .before .before .before .before .before .before .before .before .before .before .before .before .before .before .before .before .before .sized .ensures, eq-eqb _ _ (c .before .before .before .before .before .before .before .before .before .before .before .before .before .before .before .before .if1 .taken)) (c .before .before .before .before .before .before .before .before .before .before .sized2 .ensures)
-
-returns-2 : tie.Need-returns-2
-unfolding generalOf entered
-returns-2 c = rw (← c .before .sized .ensures, ne-eqb _ _ (c .if1 .left))
+returns c = rw (← c .before .before .before .before .before .before .before .before .before .before .before .before .before .before .before .before .plain .ensures) (c .before .before .before .before .before .before .before .before .before .before .general-tuned .ensures)
 
 pub general-spec : {M : Type 1} → statement M
 general-spec =
     tie.close
     (tie.spec
     (λ c κs. search needs)
-    sized-requires-2
+    (λ c κs. search needs)
     (λ c. search needs)
     (λ c. search needs)
     (λ c. search needs)
     (λ c. search needs)
     (λ c. search needs)
-    returns
-    returns-2)
+    returns)

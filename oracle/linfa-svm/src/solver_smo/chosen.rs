@@ -2,6 +2,7 @@
 //! file is a child of the solver's, so it sees what the solver hides.
 
 use super::{SolverParams, SolverState};
+use crate::floor::USUAL;
 use crate::permutable_kernel::PermutableKernel;
 use crate::watch::Given;
 use linfa_kernel::Kernel;
@@ -22,6 +23,7 @@ pub fn update(given: &Given) -> [f64; 2] {
         eps: 0.0,
         shrinking: false,
         budget: 1,
+        floor: USUAL,
     };
     let mut state = SolverState::new(
         given.weights.to_vec(),

@@ -1,0 +1,18 @@
+// What a caller may set beside a problem: today the floor of the curvature.
+ghost use mathlib.Core.Path.{_≡_};
+ghost use Rattle.tuning.specs.Tuning.{plainTuning};
+use alpha::Alpha;
+
+// The floor is what stands for a curvature that isn't above 0.
+pub struct Tuning {
+    pub floor: f64,
+}
+
+// The run of the published Rust.
+pub fn plain() -> Tuning
+    ensures { λ r. ⌜ r ≡ plainTuning ⌝ }
+{
+    Tuning {
+        floor: Alpha::curvature_floor(),
+    }
+}
