@@ -36,6 +36,7 @@ use Rattle.solver.specs.declared.Given.{Given}
 use Rattle.still.specs.Answered.{Reply, Answers, weightsTo, resultOf, replyOf, fittedStill}
 use Rattle.still.specs.Entries.{stillLent, StillWhole, stillWhole, stillLeft}
 use Rattle.still.proofs.Fitted.{ByLabel, length-weights, weights-at, two-fields, fitted-from, from-any}
+use Rattle.still.proofs.Same.{room-nu}
 
 module _ (g : Given) (how : Finish) (m l : List ℕ) (top : Bool → Float) (term : ℕ → Float) (budget : ℕ) where
   pub reply-by : (f h : List Float) (steps : ℕ) (going : Bool) (v : Level) (obj : Float) (h1 h2 : List Float) (a : Answer)
@@ -95,3 +96,13 @@ ready-taken {g} {m} {l} {f} R = record { matrix = R .matrix; square = R .square;
 pub cleared-by : (n : ℕ) (o : Outcome) (h h0 f0 f1 f2 x : List Float) (y0 y2 : List ℕ) (r : Reply) → _≡_ {A = Reply} (record { out = o; result = h }) r → f1 ≡ x ++ drop (5 * n) f0 → length x ≡ 5 * n → 5 * n ≤ length f0
     → f2 ≡ filledTo Weight.zero f1 (5 * n) → y2 ≡ filledTo 0 y0 n → _≡_ {A = StillWhole} (stillWhole o h f2 y2) (stillLeft n r (stillLent h0 f0 y0))
 cleared-by n o h h0 f0 f1 f2 x y0 y2 r er e1 ex long e2 ey = rw (ey, e2, e1, filled-over Weight.zero (5 * n) x f0 ex long, ← er)
+
+-- what the code answers and leaves is what an entry's definition answers and leaves, from the lent scratch
+pub whole-still : (g : Given) (how : Finish) (m l : List ℕ) (c a p : List Float) (top : Bool → Float) (term : ℕ → Float) (budget : ℕ) (h f : List Float) (y : List ℕ) (w : StillWhole)
+    → g .shrinking ≡ false → g .side ≡ g .n → ByLabel g l c p top term → 5 * g .n ≤ length f
+    → w ≡ stillLeft (g .n) (replyOf g how m l top term budget (orderless g m l top term (diagonalIn g m (weightsTo (g .n) a (take (5 * g .n) f) (g .n)) (g .n)) budget) h) (stillLent h f y)
+    → w ≡ stillLeft (g .n) (fittedStill g how m l top term a budget f h) (stillLent h f y)
+whole-still g how m l c a p top term budget h f y w off square B long x =
+    x
+    ∙ ap (λ (r : Reply). stillLeft (g .n) r (stillLent h f y))
+    (fit-still g how m l top term budget c a p (take (5 * g .n) f) f h off square B (room-nu (g .nu) (g .n) _ (le-of-eq (sym (length-take-le (5 * g .n) f long)))) (room-nu (g .nu) (g .n) _ long))

@@ -165,11 +165,7 @@ pub fn sized(n: usize, inputs: bool, m: usize, h: usize, f: usize, y: usize) -> 
     ensures { λ r. ⌜ r ≡ stillSizesBy n inputs m h f y ⌝ }
 {
     if (0 < n) & (n <= 512) {
-        if inputs & roomy(n, m, h, f, y) {
-            0
-        } else {
-            2
-        }
+        if inputs & roomy(n, m, h, f, y) { 0 } else { 2 }
     } else {
         1
     }

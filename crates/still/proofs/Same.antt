@@ -67,7 +67,7 @@ module _ (n : ℕ) (d : Lent) (e : StillLent) (w : Whole) (v : StillWhole) where
   unfolding entered stillEntered
   entered-same a b p q s = rw (p, q) s
 
-room-nu : (nu : Bool) (n f : ℕ) → 5 * n ≤ f → sized nu n ≤ f
+pub room-nu : (nu : Bool) (n f : ℕ) → 5 * n ≤ f → sized nu n ≤ f
 room-nu true n f h = h
 room-nu false n f h = omega arith
 
