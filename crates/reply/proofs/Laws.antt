@@ -3,7 +3,7 @@
 -- Main theorems:
 --   fit-answers: what the code replies is what the rule's fit answers, with both its readings
 --   fit-still: what it replies is what the definition replies, from any scratch
-use Prim.Native.Nat.{ℕ, _+_, _*_, _-_, _≤_, _<_}
+use Prim.Native.Nat.{ℕ, _+_, _*_, _-_, _≤_}
 use mathlib.Core.Bool.{Bool, true, false}
 use mathlib.Core.List.{List, _++_}
 use mathlib.Core.Path.{_≡_, refl, sym, ap, _∙_}

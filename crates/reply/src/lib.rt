@@ -1,6 +1,5 @@
 // A fit without an order table: the start weights into their field, the run, what it answers, and the used scratch cleared.
 // The parameters f and l are the lent floats and labels, cpos and cneg the ceilings by label, p the linear term: orderless/specs/Sheet.antt.
-ghost use mathlib.Core.Bool.{Bool};
 ghost use mathlib.Core.Path.{_≡_};
 ghost use Prim.Native.Nat.{_+_, _*_, _≤_, _<_};
 ghost use lib.Ieee.{nan};

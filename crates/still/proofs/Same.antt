@@ -6,19 +6,18 @@
 use Prim.Native.Nat.{ℕ, _*_, _≤_, _<_}
 use mathlib.Core.Bool.{Bool, true, false}
 use mathlib.Core.List.{List}
-use mathlib.Core.Path.{_≡_, refl, sym, ap, _∙_}
+use mathlib.Core.Path.{_≡_, refl, ap, _∙_}
 use native.Mathlib.Omega.{arith}
-use borrow.Author.Tests.{eq-eqb}
 use lib.Dec.{eqb}
 use lib.Ieee.{Float, nan}
 use lib.ListN.{length, getD}
 use Rattle.answer.specs.Lent.{Lent, Whole}
 use Rattle.answer.specs.declared.Answer.{Answer}
 use Rattle.answer.specs.declared.Finish.{Finish}
-use Rattle.answer.specs.declared.Outcome.the-variants.{Accepted, Refused}
-use Rattle.classification.specs.Entries.{givenBy, decided, entered, sizesOf, fitCTunedSized, fitCTuned, fitNuTunedSized, fitNuTuned, fitOneClassTunedSized, fitOneClassTuned}
+use Rattle.answer.specs.declared.Outcome.the-variants.{Accepted}
+use Rattle.classification.specs.Entries.{decided, entered, sizesOf, fitCTunedSized, fitCTuned, fitNuTunedSized, fitNuTuned, fitOneClassTunedSized, fitOneClassTuned}
 use Rattle.classification.proofs.Accepts.{refused-apart}
-use Rattle.judge.specs.Judge.{andThen, floorJudged, cJudged, nuJudged, oneClassJudged}
+use Rattle.judge.specs.Judge.{andThen, floorJudged}
 use Rattle.judge.specs.declared.Judged.{Judged}
 use Rattle.judge.specs.declared.Judged.the-variants.{Fine, Bad}
 use Rattle.judge.proofs.Accepted.{floor-fine, c-fine, nu-fine}

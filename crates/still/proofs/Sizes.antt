@@ -1,5 +1,5 @@
 -- What right sizes give to an entry without an order table. Assumes nothing.
-use Prim.Native.Nat.{ℕ, _*_, _≤_}
+use Prim.Native.Nat.{ℕ, _*_}
 use mathlib.Core.Bool.{Bool, true, false, _&&_, cond}
 use mathlib.Core.Path.{_≡_, refl}
 use native.Mathlib.Omega.{arith}
