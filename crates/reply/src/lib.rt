@@ -1,15 +1,16 @@
-// A fit without an order table: the start weights into their field, the run, and what it answers.
+// A fit without an order table: the start weights into their field, the run, what it answers, and the used scratch cleared.
 // The parameters f and l are the lent floats and labels, cpos and cneg the ceilings by label, p the linear term: orderless/specs/Sheet.antt.
 ghost use mathlib.Core.Path.{_≡_};
 ghost use Prim.Native.Nat.{_+_, _*_, _≤_, _<_};
 ghost use lib.Ieee.{nan};
-ghost use lib.ListN.{length, getD};
+ghost use lib.ListN.{length, getD, take};
 ghost use Rattle.answer.specs.Answer.{supportOf, rhoOf, objOf, ratioOf, reasonOf};
 ghost use Rattle.course.specs.Filled.{diagonalIn};
 ghost use Rattle.orderless.specs.Run.{spread, course, orderless};
 ghost use Rattle.orderless.specs.Sheet.{ceilingsOf};
 ghost use Rattle.sheet.specs.Ready.{SheetReady};
 ghost use Rattle.still.specs.Answered.{Reply, weightsTo, replyOf};
+ghost use Rattle.still.specs.Entries.{stillLent, StillWhole, stillWhole, stillLeft, stillRoomGood, stillSizesBy};
 use answer::Answer;
 use answer::Finish;
 use answer::Outcome;
@@ -86,7 +87,7 @@ fn reply(
 }
 
 // From the start weights a to the answer.
-pub fn fit(
+fn fit(
     h: &mut [f64],
     f: &mut [f64],
     l: &[u8],
@@ -108,4 +109,63 @@ pub fn fit(
     load(f, a, g.n);
     let w = course::train(f, l, m, g, p, cpos, cneg, budget);
     reply(h, f, l, m, g, how, p, cpos, cneg, budget, w)
+}
+
+// The same in the first 5n of the lent floats, with the used scratch cleared: every entry ends here.
+pub fn fit_cleared(
+    h: &mut [f64],
+    f: &mut [f64],
+    y: &mut [u8],
+    l: &[u8],
+    m: &[u8],
+    g: Given,
+    how: Finish,
+    a: &[f64],
+    p: f64,
+    cpos: f64,
+    cneg: f64,
+    budget: u64,
+) -> Outcome
+    requires { ⌜ (SheetReady g (now m) (now l) (now f)) × (1 ≤ g .n) × (budget ≤ 10000000) × (g .n ≤ length (now a)) × (g .n ≤ length (now h)) × (g .n ≤ length (now y)) ⌝ }
+    ensures { λ o. ⌜ _≡_ {A = StillWhole} (stillWhole o (now (h .exit)) (now (f .exit)) (now (y .exit)))
+        (stillLeft (g .n) (replyOf g how (now (m .entry)) (now (l .entry)) (ceilingsOf cpos cneg) (λ k. p) budget
+        (orderless g (now (m .entry)) (now (l .entry)) (ceilingsOf cpos cneg) (λ k. p)
+        (diagonalIn g (now (m .entry)) (weightsTo (g .n) (now (a .entry)) (take (5 * g .n) (now (f .entry))) (g .n)) (g .n)) budget) (now (h .entry)))
+        (stillLent (now (h .entry)) (now (f .entry)) (now (y .entry)))) ⌝ }
+{
+    let n = g.n;
+    let o = fit(
+        h,
+        &mut f[..5 * n],
+        l,
+        m,
+        g,
+        how,
+        a,
+        p,
+        cpos,
+        cneg,
+        budget as usize,
+    );
+    lists::fill_floats(f, 0.0, 5 * n);
+    lists::fill_bytes(y, 0, n);
+    o
+}
+
+fn roomy(n: usize, m: usize, h: usize, f: usize, y: usize) -> bool
+    requires { ⌜ n ≤ 512 ⌝ }
+    ensures { λ r. ⌜ r ≡ stillRoomGood n m h f y ⌝ }
+{
+    (m == 8 * (n * n)) & (n <= h) & (5 * n <= f) & (n <= y)
+}
+
+// 0 where the sizes are right, else 1 or 2. n may be any number at all.
+pub fn sized(n: usize, inputs: bool, m: usize, h: usize, f: usize, y: usize) -> u64
+    ensures { λ r. ⌜ r ≡ stillSizesBy n inputs m h f y ⌝ }
+{
+    if (0 < n) & (n <= 512) {
+        if inputs & roomy(n, m, h, f, y) { 0 } else { 2 }
+    } else {
+        1
+    }
 }

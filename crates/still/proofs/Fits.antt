@@ -48,27 +48,25 @@ one-or-zero (suc (suc a)) h = let z : ⊥ = omega arith in absurd z
 two-labels : (kind : Kind) (l : List ℕ) (n : ℕ) → kind ≡ TwoClass → first 4 (labelGood l) n 0 ≡ Fine → (k : ℕ) → k < n → Labelled kind (getD l k 0)
 two-labels kind l n e h k K = rw e (one-or-zero (getD l k 0) (label-within l k (first-fine 4 (labelGood l) n 0 h k (omega arith) (omega arith))))
 
-module _ (g : Given) (m : List ℕ) (budget : ℕ) (d : Lent) (f : List Float) (off : g .shrinking ≡ false) (square : g .side ≡ g .n) (most : g .n ≤ 512)
-    (lf : 7 * g .n ≤ length (d .floats)) (lu : 2 * g .n ≤ length (d .numbers)) (ly : g .n ≤ length (d .bytes)) (room : sized (g .nu) (g .n) ≤ length f) where
+-- ---- what each fit lends, by label
+
+module _ (g : Given) (most : g .n ≤ 512) where
   module _ (l : List ℕ) (two : g .kind ≡ TwoClass) (labels : first 4 (labelGood l) (g .n) 0 ≡ Fine) where
-    module _ (cpos cneg : Float) (up : isCeiling cpos ≡ true) (un : isCeiling cneg ≡ true) where
-      c-lent : ByLabel g l (costsTo cpos cneg l nothing (g .n)) (evenly minusOne (g .n)) (ceilingsOf cpos cneg) (λ k. minusOne)
-      c-lent = record {
-        labels = two-labels (g .kind) l (g .n) two labels;
-        ceilings = λ k K. cost-at (g .n) k most K cpos cneg l;
-        above = above;
-        terms = λ k K. evenly-at (g .n) k most K minusOne;
-        steady = λ k K. steady-minus-one;
-      }
-        where
-          above : (t : Bool) → lt Weight.zero (cond t cpos cneg) ≡ true
-          above true = holds _ .0 (cost-within cpos up .0)
-          above false = holds _ .0 (cost-within cneg un .0)
+    pub c-lent : (cpos cneg : Float) → isCeiling cpos ≡ true → isCeiling cneg ≡ true
+        → ByLabel g l (costsTo cpos cneg l nothing (g .n)) (evenly minusOne (g .n)) (ceilingsOf cpos cneg) (λ k. minusOne)
+    c-lent cpos cneg up un = record {
+      labels = two-labels (g .kind) l (g .n) two labels;
+      ceilings = λ k K. cost-at (g .n) k most K cpos cneg l;
+      above = above;
+      terms = λ k K. evenly-at (g .n) k most K minusOne;
+      steady = λ k K. steady-minus-one;
+    }
+      where
+        above : (t : Bool) → lt Weight.zero (cond t cpos cneg) ≡ true
+        above true = holds _ .0 (cost-within cpos up .0)
+        above false = holds _ .0 (cost-within cneg un .0)
 
-      pub c-still : Answers (fitted g Signed m l (costsTo cpos cneg l nothing (g .n)) nothing (evenly minusOne (g .n)) budget d) (stillC g m l cpos cneg budget f) d
-      c-still = fitted-still g Signed m l (costsTo cpos cneg l nothing (g .n)) nothing (evenly minusOne (g .n)) (ceilingsOf cpos cneg) (λ k. minusOne) budget d f off square c-lent lf lu ly room
-
-    nu-lent : ByLabel g l (evenly one (g .n)) nothing (ceilingsOf one one) (λ k. Weight.zero)
+    pub nu-lent : ByLabel g l (evenly one (g .n)) nothing (ceilingsOf one one) (λ k. Weight.zero)
     nu-lent = record {
       labels = two-labels (g .kind) l (g .n) two labels;
       ceilings = λ k K. evenly-at (g .n) k most K one ∙ sym (either-one (positiveIn l k));
@@ -77,11 +75,7 @@ module _ (g : Given) (m : List ℕ) (budget : ℕ) (d : Lent) (f : List Float) (
       steady = λ k K. steady-zero;
     }
 
-    pub nu-still : (nu : Float)
-        → Answers (fitted g Scaled m l (evenly one (g .n)) (sharedTo (half nu (g .n)) l nothing (g .n)) nothing budget d) (stillNu g m l nu budget f) d
-    nu-still nu = fitted-still g Scaled m l (evenly one (g .n)) (sharedTo (half nu (g .n)) l nothing (g .n)) nothing (ceilingsOf one one) (λ k. Weight.zero) budget d f off square nu-lent lf lu ly room
-
-  one-class-lent : g .kind ≡ OneClass → ByLabel g (allPositive (g .n)) (evenly one (g .n)) nothing (ceilingsOf one one) (λ k. Weight.zero)
+  pub one-class-lent : g .kind ≡ OneClass → ByLabel g (allPositive (g .n)) (evenly one (g .n)) nothing (ceilingsOf one one) (λ k. Weight.zero)
   one-class-lent single = record {
     labels = λ k K. rw single (positive-at (g .n) k most K);
     ceilings = λ k K. evenly-at (g .n) k most K one ∙ sym (either-one (positiveIn (allPositive (g .n)) k));
@@ -90,7 +84,21 @@ module _ (g : Given) (m : List ℕ) (budget : ℕ) (d : Lent) (f : List Float) (
     steady = λ k K. steady-zero;
   }
 
+-- ---- what each fit answers
+
+module _ (g : Given) (m : List ℕ) (budget : ℕ) (d : Lent) (f : List Float) (off : g .shrinking ≡ false) (square : g .side ≡ g .n) (most : g .n ≤ 512)
+    (lf : 7 * g .n ≤ length (d .floats)) (lu : 2 * g .n ≤ length (d .numbers)) (ly : g .n ≤ length (d .bytes)) (room : sized (g .nu) (g .n) ≤ length f) where
+  module _ (l : List ℕ) (two : g .kind ≡ TwoClass) (labels : first 4 (labelGood l) (g .n) 0 ≡ Fine) where
+    pub c-still : (cpos cneg : Float) → isCeiling cpos ≡ true → isCeiling cneg ≡ true
+        → Answers (fitted g Signed m l (costsTo cpos cneg l nothing (g .n)) nothing (evenly minusOne (g .n)) budget d) (stillC g m l cpos cneg budget f) d
+    c-still cpos cneg up un =
+        fitted-still g Signed m l (costsTo cpos cneg l nothing (g .n)) nothing (evenly minusOne (g .n)) (ceilingsOf cpos cneg) (λ k. minusOne) budget d f off square (c-lent g most l two labels cpos cneg up un) lf lu ly room
+
+    pub nu-still : (nu : Float)
+        → Answers (fitted g Scaled m l (evenly one (g .n)) (sharedTo (half nu (g .n)) l nothing (g .n)) nothing budget d) (stillNu g m l nu budget f) d
+    nu-still nu = fitted-still g Scaled m l (evenly one (g .n)) (sharedTo (half nu (g .n)) l nothing (g .n)) nothing (ceilingsOf one one) (λ k. Weight.zero) budget d f off square (nu-lent g most l two labels) lf lu ly room
+
   pub one-class-still : (single : g .kind ≡ OneClass) (nu : Float)
       → Answers (fitted g Plain m (allPositive (g .n)) (evenly one (g .n)) (oneClassTo nu (g .n) nothing (g .n)) nothing budget d) (stillOneClass g m nu budget f) d
   one-class-still single nu =
-      fitted-still g Plain m (allPositive (g .n)) (evenly one (g .n)) (oneClassTo nu (g .n) nothing (g .n)) nothing (ceilingsOf one one) (λ k. Weight.zero) budget d f off square (one-class-lent single) lf lu ly room
+      fitted-still g Plain m (allPositive (g .n)) (evenly one (g .n)) (oneClassTo nu (g .n) nothing (g .n)) nothing (ceilingsOf one one) (λ k. Weight.zero) budget d f off square (one-class-lent g most single) lf lu ly room

@@ -3,17 +3,19 @@
 -- Main theorems:
 --   fitted-from: outcome, home and crate reading of any fit whose ceilings go by label, from a scratch that holds the start weights
 --   fitted-still: the same, from any scratch
---   out-alike: the outcome is the same whatever result list is lent
+--   out-alike: the outcome is the same whatever result list is lent, and `result-alike` each place of it
+--   from-any: what is replied is the same from any scratch that holds the start weights
 use Prim.Native.Nat.{ℕ, zero, suc, _+_, _*_, _≤_, _<_}
 use mathlib.Core.Bool.{Bool, true, false, cond}
 use mathlib.Core.List.{List}
 use mathlib.Core.Path.{_≡_, refl, sym, ap, _∙_}
+use native.Mathlib.Nat.{le-of-eq}
 use native.Mathlib.Omega.{arith}
 use lib.Ieee.{Float, nan, lt}
-use lib.ListN.{length, getD}
+use lib.ListN.{length, getD, replicate, length-replicate}
 use Rattle.alpha.specs.Weight as Weight
 use Rattle.answer.specs.Answer.{coefficientOf, finishedTo, supportOf}
-use Rattle.answer.specs.Lent.{Lent}
+use Rattle.answer.specs.Lent.{Lent, lent}
 use Rattle.answer.specs.Solved.{stuck, crateOf, homeOf, levelAt, settledBy, solved}
 use Rattle.answer.specs.declared.Finish.{Finish}
 use Rattle.classification.specs.Entries.{fitted}
@@ -37,7 +39,7 @@ use Rattle.solver.specs.Run.{Full}
 use Rattle.solver.specs.declared.Given.{Given}
 use Rattle.solver.specs.declared.Status.the-variants.{Going, Done}
 use Rattle.state.specs.Lists.{state}
-use Rattle.still.specs.Answered.{Answers, weightsTo, resultOf, replyOf, fittedStill}
+use Rattle.still.specs.Answered.{Reply, Answers, weightsTo, resultOf, replyOf, fittedStill}
 
 -- ---- the weights in their field
 
@@ -100,6 +102,11 @@ module _ (g : Given) (how : Finish) (m l : List ℕ) (top : Bool → Float) (ter
       let o = readIn (g .nu) (g .n) (c .floats) in
       let v = levelIn g m l top o in
       rw (support-alike (resultOf g how m l top term o v h) (resultOf g how m l top term o v x) (g .n) (λ k K. result-at o v h k K long ∙ sym (result-at o v x k K long')))
+
+  pub result-alike : (a : List Float) (budget : ℕ) (f h x : List Float) → g .n ≤ length h → g .n ≤ length x → (k : ℕ) → k < g .n
+      → getD (fittedStill g how m l top term a budget f h .result) k nan ≡ getD (fittedStill g how m l top term a budget f x .result) k nan
+  unfolding fittedStill replyOf
+  result-alike a budget f h x long long' k K = result-at _ _ h k K long ∙ sym (result-at _ _ x k K long')
 
 -- ---- a fit: labels l, ceilings c, start weights a, linear terms p
 
@@ -211,3 +218,22 @@ unfolding fittedStill
 fitted-still g how m l c a p top term budget d f off square B lf lu ly room =
     fitted-from g how m l c a p top term budget d off square B lf lu ly (weightsTo (g .n) a f (g .n)) (rw (length-weights (g .n) a f (g .n)) room)
     (λ k K. weights-at (g .n) a f k K (two-fields (g .nu) (g .n) (length f) room))
+
+reply-by : (r q : Reply) → r .out ≡ q .out → r .result ≡ q .result → r ≡ q
+reply-by r q e z = λ i. record { out = e i; result = z i }
+
+-- lists that are lent to nobody, as long as a fit of n samples wants them
+abbrev stead : ℕ → List Float → Lent
+stead n h = lent h h (replicate (7 * n) Weight.zero) (replicate (2 * n) 0) (replicate n 0)
+
+pub from-any : (g : Given) (how : Finish) (m l : List ℕ) (c a p : List Float) (top : Bool → Float) (term : ℕ → Float) (budget : ℕ) (f1 f h : List Float)
+    → g .shrinking ≡ false → g .side ≡ g .n → ByLabel g l c p top term → sized (g .nu) (g .n) ≤ length f1 → ((k : ℕ) → k < g .n → getD f1 (g .n + k) nan ≡ getD a k nan)
+    → sized (g .nu) (g .n) ≤ length f → replyOf g how m l top term budget (orderless g m l top term f1 budget) h ≡ fittedStill g how m l top term a budget f h
+from-any g how m l c a p top term budget f1 f h off square B room W room' =
+    let n = g .n in
+    let lf = le-of-eq (sym (length-replicate (7 * n) Weight.zero)) in
+    let lu = le-of-eq (sym (length-replicate {A = ℕ} (2 * n) 0)) in
+    let ly = le-of-eq (sym (length-replicate {A = ℕ} n 0)) in
+    let x = fitted-from g how m l c a p top term budget (stead n h) off square B lf lu ly f1 room W in
+    let z = fitted-still g how m l c a p top term budget (stead n h) f off square B lf lu ly room' in
+    reply-by _ _ (sym (x .out) ∙ z .out) (sym (x .home) ∙ z .home)

@@ -1,2 +1,4 @@
 pub mod Fitted
 pub mod Fits
+pub mod Sizes
+pub mod Same

@@ -1,0 +1,100 @@
+-- With shrinking off an entry without an order table answers what the rule's entry answers, refusals from 3 on too. Assumes nothing.
+--
+-- Main theorems:
+--   c-same, nu-same, one-class-same: where what is lent to each suffices, the outcome is the same, and where it is accepted so is every coefficient; where the
+--   lists lent for the result are the same, so they are after
+use Prim.Native.Nat.{ℕ, _*_, _≤_, _<_}
+use mathlib.Core.Bool.{Bool, true, false}
+use mathlib.Core.List.{List}
+use mathlib.Core.Path.{_≡_, refl, ap, _∙_}
+use native.Mathlib.Omega.{arith}
+use lib.Dec.{eqb}
+use lib.Ieee.{Float, nan}
+use lib.ListN.{length, getD}
+use Rattle.answer.specs.Lent.{Lent, Whole}
+use Rattle.answer.specs.declared.Answer.{Answer}
+use Rattle.answer.specs.declared.Finish.{Finish}
+use Rattle.answer.specs.declared.Outcome.the-variants.{Accepted}
+use Rattle.classification.specs.Entries.{decided, entered, sizesOf, fitCTunedSized, fitCTuned, fitNuTunedSized, fitNuTuned, fitOneClassTunedSized, fitOneClassTuned}
+use Rattle.classification.proofs.Accepts.{refused-apart}
+use Rattle.judge.specs.Judge.{andThen, floorJudged}
+use Rattle.judge.specs.declared.Judged.{Judged}
+use Rattle.judge.specs.declared.Judged.the-variants.{Fine, Bad}
+use Rattle.judge.proofs.Accepted.{floor-fine, c-fine, nu-fine}
+use Rattle.judge.proofs.Lengths.{room-of}
+use Rattle.orderless.specs.Sheet.{sized}
+use Rattle.solver.specs.declared.Given.{Given}
+use Rattle.tuning.specs.declared.Tuning.{Tuning}
+use Rattle.still.specs.Answered.{Answers, fittedStill}
+use Rattle.still.specs.Entries.{StillLent, StillWhole, stillLeft, stillSizes, stillJudged, stillDecided, stillEntered, stillCTunedSized, stillCTuned, stillNuTunedSized, stillNuTuned, stillOneClassTunedSized, stillOneClassTuned}
+use Rattle.still.proofs.Fitted.{out-alike, result-alike}
+use Rattle.still.proofs.Fits.{c-still, nu-still, one-class-still}
+use Rattle.still.proofs.Sizes.{room-still}
+
+-- w is what the rule's entry answers and leaves of d, v the other's of e
+pub record Same (n : ℕ) (d : Lent) (e : StillLent) (w : Whole) (v : StillWhole) : Type 0 where
+  pub out : w .out ≡ v .out
+  pub places : (x : Answer) → w .out ≡ Accepted x → (k : ℕ) → k < n → getD (w .left .home) k nan ≡ getD (v .left .result) k nan
+  pub lists : d .home ≡ e .result → w .left .home ≡ v .left .result
+
+fit-same : (g : Given) (how : Finish) (m l : List ℕ) (top : Bool → Float) (term : ℕ → Float) (a : List Float) (budget : ℕ) (d : Lent) (e : StillLent) (w : Whole)
+    → Answers w (fittedStill g how m l top term a budget (e .floats)) d → g .n ≤ length (d .home) → g .n ≤ length (e .result)
+    → Same (g .n) d e w (stillLeft (g .n) (fittedStill g how m l top term a budget (e .floats) (e .result)) e)
+fit-same g how m l top term a budget d e w A long long' = record {
+  out = A .out ∙ out-alike g how m l top term a budget (e .floats) (d .home) (e .result) long long';
+  places = λ x X k K.
+      ap (λ (z : List Float). getD z k nan) (A .home) ∙ result-alike g how m l top term a budget (e .floats) (d .home) (e .result) long long' k K;
+  lists = λ q. A .home ∙ ap (λ (z : List Float). fittedStill g how m l top term a budget (e .floats) z .result) q;
+}
+
+-- with shrinking off nothing is refused by 13
+off : (j : Judged) → andThen j Fine ≡ j
+unfolding andThen
+off Fine = refl
+off (Bad number index) = refl
+
+module _ (n : ℕ) (d : Lent) (e : StillLent) (w : Whole) (v : StillWhole) where
+  decided-same : (j : Judged) → (j ≡ Fine → Same n d e w v) → Same n d e (decided j w d) (stillDecided j v e)
+  unfolding decided stillDecided
+  decided-same Fine s = s refl
+  decided-same (Bad number index) s = record { out = refl; places = λ x X. absurd (refused-apart number index x X); lists = λ q. q }
+
+  judged-same : (x : Float) (j : Judged) → (j ≡ Fine → Same n d e w v) → Same n d e (decided (floorJudged x j) w d) (stillDecided (stillJudged x false j) v e)
+  judged-same x j s = rw (off (floorJudged x j)) (decided-same (floorJudged x j) (λ h. s (floor-fine x j h .0)))
+
+  entered-same : (a b : ℕ) → a ≡ 0 → b ≡ 0 → Same n d e w v → Same n d e (entered a w d) (stillEntered b v e)
+  unfolding entered stillEntered
+  entered-same a b p q s = rw (p, q) s
+
+pub room-nu : (nu : Bool) (n f : ℕ) → 5 * n ≤ f → sized nu n ≤ f
+room-nu true n f h = h
+room-nu false n f h = omega arith
+
+module _ (t : Tuning) (n : ℕ) (m l : List ℕ) (eps : Float) (budget : ℕ) (d : Lent) (e : StillLent)
+    (fits : sizesOf n (eqb (length l) n) m d ≡ 0) (suffices : stillSizes n (eqb (length l) n) m e ≡ 0) where
+  pub c-same : (cpos cneg : Float) → Same n d e (fitCTuned t n m l cpos cneg eps false budget d) (stillCTuned t n m l cpos cneg eps false budget e)
+  unfolding fitCTuned fitCTunedSized stillCTuned stillCTunedSized
+  c-same cpos cneg =
+      let R = room-of _ _ _ _ _ _ _ _ fits in
+      let S = room-still _ _ _ _ _ _ suffices in
+      entered-same n d e _ _ _ _ fits suffices (judged-same n d e _ _ (t .floor) _ (λ h.
+      let q = c-fine n m l cpos cneg eps budget h in
+      fit-same _ _ _ _ _ _ _ budget d e _ (c-still _ m budget d (e .floats) refl refl (R .most) (R .floats) (R .numbers) (R .bytes) (room-nu false n _ (S .floats)) l refl (q .labels) cpos cneg (q .cpos-good) (q .cneg-good)) (R .home) (S .result)))
+
+  pub nu-same : (nu : Float) → Same n d e (fitNuTuned t n m l nu eps false budget d) (stillNuTuned t n m l nu eps false budget e)
+  unfolding fitNuTuned fitNuTunedSized stillNuTuned stillNuTunedSized
+  nu-same nu =
+      let R = room-of _ _ _ _ _ _ _ _ fits in
+      let S = room-still _ _ _ _ _ _ suffices in
+      entered-same n d e _ _ _ _ fits suffices (judged-same n d e _ _ (t .floor) _ (λ h.
+      let q = nu-fine n m l nu eps budget h in
+      fit-same _ _ _ _ _ _ _ budget d e _ (nu-still _ m budget d (e .floats) refl refl (R .most) (R .floats) (R .numbers) (R .bytes) (room-nu true n _ (S .floats)) l refl (q .labels) nu) (R .home) (S .result)))
+
+module _ (t : Tuning) (n : ℕ) (m : List ℕ) (eps : Float) (budget : ℕ) (d : Lent) (e : StillLent) (fits : sizesOf n true m d ≡ 0) (suffices : stillSizes n true m e ≡ 0) where
+  pub one-class-same : (nu : Float) → Same n d e (fitOneClassTuned t n m nu eps false budget d) (stillOneClassTuned t n m nu eps false budget e)
+  unfolding fitOneClassTuned fitOneClassTunedSized stillOneClassTuned stillOneClassTunedSized
+  one-class-same nu =
+      let R = room-of _ _ _ _ _ _ _ _ fits in
+      let S = room-still _ _ _ _ _ _ suffices in
+      entered-same n d e _ _ _ _ fits suffices (judged-same n d e _ _ (t .floor) _ (λ h.
+      fit-same _ _ _ _ _ _ _ budget d e _ (one-class-still _ m budget d (e .floats) refl refl (R .most) (R .floats) (R .numbers) (R .bytes) (room-nu false n _ (S .floats)) refl nu) (R .home) (S .result)))
