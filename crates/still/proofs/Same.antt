@@ -29,13 +29,8 @@ use Rattle.still.specs.Answered.{Answers, fittedStill}
 use Rattle.still.specs.Entries.{StillLent, StillWhole, stillLeft, stillSizes, stillJudged, stillDecided, stillEntered, stillCTunedSized, stillCTuned, stillNuTunedSized, stillNuTuned, stillOneClassTunedSized, stillOneClassTuned}
 use Rattle.still.proofs.Fitted.{out-alike, result-alike}
 use Rattle.still.proofs.Fits.{c-still, nu-still, one-class-still}
+use Rattle.still.specs.Same.{Same}
 use Rattle.still.proofs.Sizes.{room-still}
-
--- w is what the rule's entry answers and leaves of d, v the other's of e
-pub record Same (n : ℕ) (d : Lent) (e : StillLent) (w : Whole) (v : StillWhole) : Type 0 where
-  pub out : w .out ≡ v .out
-  pub places : (x : Answer) → w .out ≡ Accepted x → (k : ℕ) → k < n → getD (w .left .home) k nan ≡ getD (v .left .result) k nan
-  pub lists : d .home ≡ e .result → w .left .home ≡ v .left .result
 
 fit-same : (g : Given) (how : Finish) (m l : List ℕ) (top : Bool → Float) (term : ℕ → Float) (a : List Float) (budget : ℕ) (d : Lent) (e : StillLent) (w : Whole)
     → Answers w (fittedStill g how m l top term a budget (e .floats)) d → g .n ≤ length (d .home) → g .n ≤ length (e .result)

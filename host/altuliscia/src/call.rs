@@ -5,9 +5,7 @@ use crate::functions::{
     altuliscia_c_tuned, altuliscia_general_tuned, altuliscia_nu_tuned, altuliscia_one_class_tuned,
     altuliscia_pair, altuliscia_retired,
 };
-use crate::{
-    Answer, Before, ExitReason, General, OneClass, Options, Problem, Refusal, MOST_SAMPLES,
-};
+use crate::{Answer, Before, ExitReason, General, OneClass, Problem, Refusal, Tuned, MOST_SAMPLES};
 
 /// The bytes of an answer: of the tuned functions sixteen words, of which nine are known; that of retired samples ends with these.
 const ANSWER: usize = 128;
@@ -55,8 +53,8 @@ impl Room {
     }
 }
 
-/// The options that travel as a tuning, as its words.
-fn tuning(o: &Options) -> [f64; 1] {
+/// What travels as a tuning, as its words.
+fn tuning(o: &Tuned) -> [f64; 1] {
     [o.floor]
 }
 
@@ -70,20 +68,20 @@ fn bytes(list: &[f64]) -> usize {
 // it, and every pattern of eight bytes is a double. A bool is a byte, 0 or 1.
 
 #[rustfmt::skip]
-pub(crate) fn general(g: &General, o: &Options, room: &mut Room) -> u64 {
+pub(crate) fn general(g: &General, o: &Tuned, room: &mut Room) -> u64 {
     let (m, l, t) = (g.problem.matrix, g.problem.labels, tuning(o));
     let (lc, lh) = (bytes(&room.crate_reading), bytes(&room.home));
     let (c, h, a) = (&mut room.crate_reading, &mut room.home, &mut room.answer);
     unsafe {
         altuliscia_general_tuned(l.len(), m.as_ptr().cast(), bytes(m), l.as_ptr().cast(), l.len(),
             g.ceilings.as_ptr().cast(), bytes(g.ceilings), g.alphas.as_ptr().cast(), bytes(g.alphas),
-            g.linear.as_ptr().cast(), bytes(g.linear), u8::from(g.nu_rule), o.eps.to_bits(), u8::from(o.shrinking), o.budget,
+            g.linear.as_ptr().cast(), bytes(g.linear), u8::from(g.nu_rule), o.options.eps.to_bits(), u8::from(o.options.shrinking), o.options.budget,
             t.as_ptr().cast(), bytes(&t), c.as_mut_ptr().cast(), lc, h.as_mut_ptr().cast(), lh, a.as_mut_ptr(), ANSWER)
     }
 }
 
 #[rustfmt::skip]
-pub(crate) fn retired(g: &General, r: &[bool], o: &Options, room: &mut Room) -> u64 {
+pub(crate) fn retired(g: &General, r: &[bool], o: &Tuned, room: &mut Room) -> u64 {
     let (m, l, t) = (g.problem.matrix, g.problem.labels, tuning(o));
     let (lc, lh) = (bytes(&room.crate_reading), bytes(&room.home));
     let (c, h, a) = (&mut room.crate_reading, &mut room.home, &mut room.answer);
@@ -91,43 +89,43 @@ pub(crate) fn retired(g: &General, r: &[bool], o: &Options, room: &mut Room) -> 
         altuliscia_retired(l.len(), m.as_ptr().cast(), bytes(m), l.as_ptr().cast(), l.len(),
             g.ceilings.as_ptr().cast(), bytes(g.ceilings), g.alphas.as_ptr().cast(), bytes(g.alphas),
             g.linear.as_ptr().cast(), bytes(g.linear), r.as_ptr().cast(), r.len(),
-            u8::from(g.nu_rule), o.eps.to_bits(), u8::from(o.shrinking), o.budget,
+            u8::from(g.nu_rule), o.options.eps.to_bits(), u8::from(o.options.shrinking), o.options.budget,
             t.as_ptr().cast(), bytes(&t), c.as_mut_ptr().cast(), lc, h.as_mut_ptr().cast(), lh, a.as_mut_ptr(), ANSWER)
     }
 }
 
 #[rustfmt::skip]
-pub(crate) fn c(p: &Problem, cpos: f64, cneg: f64, o: &Options, room: &mut Room) -> u64 {
+pub(crate) fn c(p: &Problem, cpos: f64, cneg: f64, o: &Tuned, room: &mut Room) -> u64 {
     let (m, l, t) = (p.matrix, p.labels, tuning(o));
     let (lc, lh) = (bytes(&room.crate_reading), bytes(&room.home));
     let (c, h, a) = (&mut room.crate_reading, &mut room.home, &mut room.answer);
     unsafe {
         altuliscia_c_tuned(l.len(), m.as_ptr().cast(), bytes(m), l.as_ptr().cast(), l.len(),
-            cpos.to_bits(), cneg.to_bits(), o.eps.to_bits(), u8::from(o.shrinking), o.budget,
+            cpos.to_bits(), cneg.to_bits(), o.options.eps.to_bits(), u8::from(o.options.shrinking), o.options.budget,
             t.as_ptr().cast(), bytes(&t), c.as_mut_ptr().cast(), lc, h.as_mut_ptr().cast(), lh, a.as_mut_ptr(), ANSWER)
     }
 }
 
 #[rustfmt::skip]
-pub(crate) fn nu(p: &Problem, nu: f64, o: &Options, room: &mut Room) -> u64 {
+pub(crate) fn nu(p: &Problem, nu: f64, o: &Tuned, room: &mut Room) -> u64 {
     let (m, l, t) = (p.matrix, p.labels, tuning(o));
     let (lc, lh) = (bytes(&room.crate_reading), bytes(&room.home));
     let (c, h, a) = (&mut room.crate_reading, &mut room.home, &mut room.answer);
     unsafe {
         altuliscia_nu_tuned(l.len(), m.as_ptr().cast(), bytes(m), l.as_ptr().cast(), l.len(),
-            nu.to_bits(), o.eps.to_bits(), u8::from(o.shrinking), o.budget,
+            nu.to_bits(), o.options.eps.to_bits(), u8::from(o.options.shrinking), o.options.budget,
             t.as_ptr().cast(), bytes(&t), c.as_mut_ptr().cast(), lc, h.as_mut_ptr().cast(), lh, a.as_mut_ptr(), ANSWER)
     }
 }
 
 #[rustfmt::skip]
-pub(crate) fn one_class(s: &OneClass, nu: f64, o: &Options, room: &mut Room) -> u64 {
+pub(crate) fn one_class(s: &OneClass, nu: f64, o: &Tuned, room: &mut Room) -> u64 {
     let (m, t) = (s.matrix, tuning(o));
     let (lc, lh) = (bytes(&room.crate_reading), bytes(&room.home));
     let (c, h, a) = (&mut room.crate_reading, &mut room.home, &mut room.answer);
     unsafe {
         altuliscia_one_class_tuned(s.n, m.as_ptr().cast(), bytes(m),
-            nu.to_bits(), o.eps.to_bits(), u8::from(o.shrinking), o.budget,
+            nu.to_bits(), o.options.eps.to_bits(), u8::from(o.options.shrinking), o.options.budget,
             t.as_ptr().cast(), bytes(&t), c.as_mut_ptr().cast(), lc, h.as_mut_ptr().cast(), lh, a.as_mut_ptr(), ANSWER)
     }
 }
@@ -149,7 +147,7 @@ pub(crate) fn pair(i: &Before, j: &Before, entry: f64, agree: bool) -> (f64, f64
 mod tests {
     use super::*;
     use crate::functions::altuliscia_c;
-    use crate::USUAL_FLOOR;
+    use crate::{Options, USUAL_FLOOR};
 
     /// The bytes of an answer without a tuning.
     const PLAIN: usize = 72;
@@ -182,12 +180,12 @@ mod tests {
 
     /// As `c`, by the function that takes no tuning.
     #[rustfmt::skip]
-    fn plain_c(p: &Problem, cpos: f64, cneg: f64, o: &Options, room: &mut Room) -> u64 {
+    fn plain_c(p: &Problem, cpos: f64, cneg: f64, o: &Tuned, room: &mut Room) -> u64 {
         let (m, l) = (p.matrix, p.labels);
         let (c, h, a) = (&mut room.crate_reading, &mut room.home, &mut room.answer);
         unsafe {
             altuliscia_c(l.len(), m.as_ptr().cast(), bytes(m), l.as_ptr().cast(), l.len(),
-                cpos.to_bits(), cneg.to_bits(), o.eps.to_bits(), u8::from(o.shrinking), o.budget,
+                cpos.to_bits(), cneg.to_bits(), o.options.eps.to_bits(), u8::from(o.options.shrinking), o.options.budget,
                 c.as_mut_ptr().cast(), 16, h.as_mut_ptr().cast(), 16, a.as_mut_ptr(), ANSWER)
         }
     }
@@ -204,7 +202,7 @@ mod tests {
 
     /// Two calls, and what they leave behind the nine numbers.
     fn as_the_document_shows(
-        call: fn(&Problem, f64, f64, &Options, &mut Room) -> u64,
+        call: fn(&Problem, f64, f64, &Tuned, &mut Room) -> u64,
         behind: [u8; ANSWER - PLAIN],
     ) {
         let labels = [true, false];
@@ -212,9 +210,10 @@ mod tests {
             eps: f64::from_bits(0x3f50_624d_d2f1_a9fc),
             shrinking: true,
             budget: 2,
-            floor: f64::from_le_bytes(shown("tuning").try_into().unwrap()),
         };
-        assert_eq!((options.eps, options.floor), (0.001, 1e-12));
+        let floor = f64::from_le_bytes(shown("tuning").try_into().unwrap());
+        assert_eq!((options.eps, floor), (0.001, 1e-12));
+        let options = Tuned { options, floor };
         let mut matrix = [1.0, 0.0, 0.0, 1.0];
         assert_eq!(shown("matrix"), bytes_of(&matrix));
         assert_eq!(shown("labels"), labels.map(u8::from));

@@ -55,16 +55,18 @@
 //!
 //! # Another floor
 //!
-//! Where the curvature of a pair isn't above 0, [`Options::floor`] stands for it. Two samples with the same kernel values and different labels
-//! are such a pair, and a smaller floor takes longer steps along it:
+//! Where the curvature of a pair isn't above 0, a small number stands for it, [`USUAL_FLOOR`]. [`Training::fit_tuned`] is told another. Two
+//! samples with the same kernel values and different labels are such a pair, and a smaller floor takes longer steps along it:
 //!
 //! ```
-//! use altuliscia::{fit_c, Options, Problem};
+//! use altuliscia::{Options, Problem, Training, Tuned};
 //!
 //! let problem = Problem { matrix: &[1.0; 4], labels: &[true, false] };
-//! let fit = |floor| fit_c(&problem, 1e12, 1e12, &Options { floor, ..Options::default() });
-//! assert_eq!(fit(1e-10)?.iterations, 50);
-//! assert_eq!(fit(1e-12)?.iterations, 1);
+//! let training = Training::C { problem, cpos: 1e12, cneg: 1e12 };
+//! let mut tuned = Tuned::from(Options::default());
+//! assert_eq!(training.fit_tuned(&tuned)?.iterations, 50);
+//! tuned.floor = 1e-12;
+//! assert_eq!(training.fit_tuned(&tuned)?.iterations, 1);
 //! # Ok::<(), altuliscia::Refusal>(())
 //! ```
 #![deny(missing_docs, unsafe_code)]
@@ -137,10 +139,6 @@ pub struct Options {
     pub shrinking: bool,
     /// The most passes, from 1 to [`MOST_PASSES`], which is the default.
     pub budget: u64,
-    /// Stands for the curvature of a pair where that isn't above 0, in the choice of the pair and in its step: above 0 and not above 1.
-    /// [`USUAL_FLOOR`] by default; a bad one is [`Refusal::Floor`]. A smaller one takes longer steps along flat directions. With another one
-    /// than the usual there is no [`trail`].
-    pub floor: f64,
 }
 
 impl Default for Options {
@@ -149,6 +147,27 @@ impl Default for Options {
             eps: 1e-7,
             shrinking: false,
             budget: MOST_PASSES,
+        }
+    }
+}
+
+/// The options, and what a run may be told beside them. It begins as `Tuned::from(options)`, which tells nothing: later versions may add
+/// fields.
+#[derive(Clone, Copy, Debug, PartialEq)]
+#[non_exhaustive]
+pub struct Tuned {
+    /// The options.
+    pub options: Options,
+    /// Stands for the curvature of a pair where that isn't above 0, in the choice of the pair and in its step: above 0 and not above 1, else
+    /// it is [`Refusal::Floor`]. [`USUAL_FLOOR`] at first. A smaller one takes longer steps along flat directions. There is a [`trail`] of
+    /// the usual one only.
+    pub floor: f64,
+}
+
+impl From<Options> for Tuned {
+    fn from(options: Options) -> Tuned {
+        Tuned {
+            options,
             floor: USUAL_FLOOR,
         }
     }
@@ -194,8 +213,13 @@ pub fn fit_c(
     cneg: f64,
     options: &Options,
 ) -> Result<Answer, Refusal> {
-    let n = problem.labels.len();
-    call::with_room(n, |room| call::c(problem, cpos, cneg, options, room))
+    let problem = *problem;
+    Training::C {
+        problem,
+        cpos,
+        cneg,
+    }
+    .fit(options)
 }
 
 /// Trains two classes by the nu rule, with nu above 0 and not above 1.
@@ -212,8 +236,8 @@ pub fn fit_c(
 /// # Ok::<(), altuliscia::Refusal>(())
 /// ```
 pub fn fit_nu(problem: &Problem, nu: f64, options: &Options) -> Result<Answer, Refusal> {
-    let n = problem.labels.len();
-    call::with_room(n, |room| call::nu(problem, nu, options, room))
+    let problem = *problem;
+    Training::Nu { problem, nu }.fit(options)
 }
 
 /// Trains one class, with nu above 0 and not above 1.
@@ -231,9 +255,8 @@ pub fn fit_nu(problem: &Problem, nu: f64, options: &Options) -> Result<Answer, R
 /// # Ok::<(), Refusal>(())
 /// ```
 pub fn fit_one_class(samples: &OneClass, nu: f64, options: &Options) -> Result<Answer, Refusal> {
-    call::with_room(samples.n, |room| {
-        call::one_class(samples, nu, options, room)
-    })
+    let samples = *samples;
+    Training::OneClass { samples, nu }.fit(options)
 }
 
 /// Trains a problem with every list given. The readings are the weights as they are: neither signed by label nor divided. So a decision
@@ -259,8 +282,7 @@ pub fn fit_one_class(samples: &OneClass, nu: f64, options: &Options) -> Result<A
 /// # Ok::<(), altuliscia::Refusal>(())
 /// ```
 pub fn fit_general(general: &General, options: &Options) -> Result<Answer, Refusal> {
-    let n = general.problem.labels.len();
-    call::with_room(n, |room| call::general(general, options, room))
+    Training::General(*general).fit(options)
 }
 
 /// Trains as [`fit_general`] does, but as if the samples whose place in `retired` is true weren't there: every sample keeps its number,
@@ -291,8 +313,8 @@ pub fn fit_retired(
     retired: &[bool],
     options: &Options,
 ) -> Result<Answer, Refusal> {
-    let n = general.problem.labels.len();
-    call::with_room(n, |room| call::retired(general, retired, options, room))
+    let general = *general;
+    Training::Retired { general, retired }.fit(options)
 }
 
 /// Trains as [`fit_c`] does, but as if the samples whose place in `retired` is true weren't there, as [`fit_retired`] has it. With
@@ -321,6 +343,24 @@ pub fn fit_c_retired(
     retired: &[bool],
     options: &Options,
 ) -> Result<Answer, Refusal> {
+    let problem = *problem;
+    Training::CRetired {
+        problem,
+        cpos,
+        cneg,
+        retired,
+    }
+    .fit(options)
+}
+
+/// What [`fit_c_retired`] answers: the library trains from lists, and these and the signs are set here.
+fn c_retired(
+    problem: &Problem,
+    cpos: f64,
+    cneg: f64,
+    retired: &[bool],
+    tuned: &Tuned,
+) -> Result<Answer, Refusal> {
     let places = problem.labels.len().min(MOST_SAMPLES);
     let refused = costs_refused(cpos, cneg);
     // Where a cost is refused, every ceiling is bad: then it is the library that says so, or what comes before it.
@@ -337,7 +377,8 @@ pub fn fit_c_retired(
         linear: &vec![-1.0; places],
         nu_rule: false,
     };
-    let mut answer = fit_retired(&general, retired, options).map_err(|r| match (r, refused) {
+    let trained = Training::Retired { general, retired }.fit_tuned(tuned);
+    let mut answer = trained.map_err(|r| match (r, refused) {
         (Refusal::Ceiling { .. }, Some(cost)) => cost,
         _ => r,
     })?;

@@ -1,9 +1,7 @@
 //! The trail of one weight: every step that changed it, found by a replay and confirmed by the library.
 use crate::replay::{delta, Replay};
 use crate::training::{Finish, Lists};
-use crate::{
-    find_pair, fit_general, Answer, Before, ExitReason, Options, Refusal, Training, USUAL_FLOOR,
-};
+use crate::{find_pair, fit_general, Answer, Before, ExitReason, Options, Refusal, Training};
 use std::fmt;
 
 /// Where one sample's weight came from.
@@ -88,8 +86,6 @@ pub enum NoTrail {
     Refused(Refusal),
     /// Shrinking is asked for.
     Shrinking,
-    /// Another floor than [`USUAL_FLOOR`] is asked for.
-    Floor,
     /// There is no such sample.
     Sample {
         /// What was asked for.
@@ -122,12 +118,6 @@ impl fmt::Display for NoTrail {
                     "a trail is told with shrinking off: with it on, samples move"
                 )
             }
-            NoTrail::Floor => {
-                write!(
-                    f,
-                    "a trail is told with the usual floor, 1e-10: the pair finder has no other"
-                )
-            }
             NoTrail::Sample { sample, n } => write!(
                 f,
                 "there is no sample {}: n is {}, and samples are counted from 0",
@@ -150,7 +140,7 @@ impl fmt::Display for NoTrail {
 
 impl std::error::Error for NoTrail {}
 
-/// Follows one sample through a training with shrinking off and the usual floor: where its weight started, every step that changed it, and
+/// Follows one sample through a training with shrinking off and the usual floor, since [`find_pair`] has no other: where its weight started, every step that changed it, and
 /// what is answered.
 ///
 /// The run is replayed here, by the rule (docs/RULE.md) in plain f64; what a step leaves of its two weights is asked of the library's
@@ -181,9 +171,6 @@ pub fn trail(training: &Training, sample: usize, options: &Options) -> Result<Tr
         return Err(NoTrail::Shrinking);
     }
     let answer = training.fit(options)?;
-    if options.floor != USUAL_FLOOR {
-        return Err(NoTrail::Floor);
-    }
     let n = answer.home.len();
     if sample >= n {
         return Err(NoTrail::Sample { sample, n });
@@ -467,7 +454,6 @@ mod tests {
         let told = |why: NoTrail| why.to_string();
         assert_eq!(told(NoTrail::Refused(Refusal::Nu)), Refusal::Nu.to_string());
         assert!(told(NoTrail::Shrinking).contains("with shrinking off"));
-        assert!(told(NoTrail::Floor).contains(&format!("the usual floor, {:e}:", USUAL_FLOOR)));
         let place = NoTrail::Sample { sample: 7, n: 4 };
         assert_eq!(
             told(place),

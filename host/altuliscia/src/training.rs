@@ -1,15 +1,12 @@
 //! What is trained, as one value: its fit, the lists that its run starts from, and how its answer shows a weight.
-use crate::{
-    fit_c, fit_c_retired, fit_general, fit_nu, fit_one_class, fit_retired, sign, Answer, General,
-    OneClass, Options, Problem, Refusal,
-};
+use crate::{c_retired, call, sign, Answer, General, OneClass, Options, Problem, Refusal, Tuned};
 use std::cmp::Ordering;
 
 /// What is trained: one of the fits with what it takes, but for the options.
 #[derive(Clone, Copy, Debug)]
 #[non_exhaustive]
 pub enum Training<'a> {
-    /// As [`fit_c`] has it.
+    /// As [`fit_c`](crate::fit_c) has it.
     C {
         /// Matrix and labels.
         problem: Problem<'a>,
@@ -18,7 +15,7 @@ pub enum Training<'a> {
         /// The ceiling of negative samples.
         cneg: f64,
     },
-    /// As [`fit_c_retired`] has it.
+    /// As [`fit_c_retired`](crate::fit_c_retired) has it.
     CRetired {
         /// Matrix and labels.
         problem: Problem<'a>,
@@ -29,23 +26,23 @@ pub enum Training<'a> {
         /// True where a sample is retired.
         retired: &'a [bool],
     },
-    /// As [`fit_nu`] has it.
+    /// As [`fit_nu`](crate::fit_nu) has it.
     Nu {
         /// Matrix and labels.
         problem: Problem<'a>,
         /// Above 0 and not above 1.
         nu: f64,
     },
-    /// As [`fit_one_class`] has it.
+    /// As [`fit_one_class`](crate::fit_one_class) has it.
     OneClass {
         /// The samples.
         samples: OneClass<'a>,
         /// Above 0 and not above 1.
         nu: f64,
     },
-    /// As [`fit_general`] has it.
+    /// As [`fit_general`](crate::fit_general) has it.
     General(General<'a>),
-    /// As [`fit_retired`] has it.
+    /// As [`fit_retired`](crate::fit_retired) has it.
     Retired {
         /// Matrix, labels and lists.
         general: General<'a>,
@@ -57,25 +54,45 @@ pub enum Training<'a> {
 impl Training<'_> {
     /// Trains it.
     pub fn fit(&self, options: &Options) -> Result<Answer, Refusal> {
+        self.fit_tuned(&Tuned::from(*options))
+    }
+
+    /// Trains it, with what is told beside the options.
+    pub fn fit_tuned(&self, tuned: &Tuned) -> Result<Answer, Refusal> {
+        let n = match self {
+            Training::C { problem, .. }
+            | Training::CRetired { problem, .. }
+            | Training::Nu { problem, .. } => problem.labels.len(),
+            Training::OneClass { samples, .. } => samples.n,
+            Training::General(general) | Training::Retired { general, .. } => {
+                general.problem.labels.len()
+            }
+        };
         match *self {
             Training::C {
                 ref problem,
                 cpos,
                 cneg,
-            } => fit_c(problem, cpos, cneg, options),
+            } => call::with_room(n, |room| call::c(problem, cpos, cneg, tuned, room)),
             Training::CRetired {
                 ref problem,
                 cpos,
                 cneg,
                 retired,
-            } => fit_c_retired(problem, cpos, cneg, retired, options),
-            Training::Nu { ref problem, nu } => fit_nu(problem, nu, options),
-            Training::OneClass { ref samples, nu } => fit_one_class(samples, nu, options),
-            Training::General(ref general) => fit_general(general, options),
+            } => c_retired(problem, cpos, cneg, retired, tuned),
+            Training::Nu { ref problem, nu } => {
+                call::with_room(n, |room| call::nu(problem, nu, tuned, room))
+            }
+            Training::OneClass { ref samples, nu } => {
+                call::with_room(n, |room| call::one_class(samples, nu, tuned, room))
+            }
+            Training::General(ref general) => {
+                call::with_room(n, |room| call::general(general, tuned, room))
+            }
             Training::Retired {
                 ref general,
                 retired,
-            } => fit_retired(general, retired, options),
+            } => call::with_room(n, |room| call::retired(general, retired, tuned, room)),
         }
     }
 }
@@ -269,7 +286,7 @@ mod tests {
                     let lists = Lists::of(&training);
                     let start = lists.finished(&lists.alphas, answer.r);
                     assert_eq!(bits(&start), bits(&answer.home), "{} {}", n, nu);
-                    let plain = fit_general(&lists.general(), &at_once()).unwrap();
+                    let plain = crate::fit_general(&lists.general(), &at_once()).unwrap();
                     assert_eq!(bits(&lists.alphas), bits(&plain.home));
                     free += lists.alphas.iter().filter(|x| **x % 1.0 != 0.0).count();
                 }

@@ -7,7 +7,6 @@ fn options(shrinking: bool) -> Options {
         eps: 0.0,
         shrinking,
         budget: 100,
-        ..Options::default()
     }
 }
 

@@ -21,7 +21,6 @@ fn options(eps: f64, shrinking: bool, budget: u64) -> Options {
         eps,
         shrinking,
         budget,
-        ..Options::default()
     }
 }
 

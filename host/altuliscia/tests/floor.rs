@@ -12,12 +12,20 @@ const TWO_FLAT: [f64; 16] = [
 /// The same two behind one that is retired.
 const WITH_RETIRED: [f64; 9] = [9.0, 9.0, 9.0, 9.0, 1.0, 0.75, 9.0, 0.75, 0.5];
 
-fn with_floor(floor: f64) -> Options {
-    Options {
+fn with_floor(floor: f64) -> Tuned {
+    told(
         floor,
-        budget: 2,
-        ..Options::default()
-    }
+        Options {
+            budget: 2,
+            ..Options::default()
+        },
+    )
+}
+
+fn told(floor: f64, options: Options) -> Tuned {
+    let mut tuned = Tuned::from(options);
+    tuned.floor = floor;
+    tuned
 }
 
 fn problem(matrix: &'static [f64], labels: &'static [bool]) -> Problem<'static> {
@@ -87,17 +95,17 @@ fn nu() -> Training<'static> {
 #[test]
 fn a_larger_floor_takes_shorter_steps() {
     for (training, expected) in kinds() {
-        let answer = training.fit(&with_floor(1.0)).unwrap();
+        let answer = training.fit_tuned(&with_floor(1.0)).unwrap();
         assert_eq!((answer.home, answer.iterations), (expected.clone(), 2));
-        let usual = training.fit(&with_floor(USUAL_FLOOR)).unwrap();
+        let usual = training.fit_tuned(&with_floor(USUAL_FLOOR)).unwrap();
         assert_eq!(usual.iterations, 1);
         let whole = |weight: &f64| [0.0, 1.0, 8.0].contains(&weight.abs());
         assert!(usual.home.iter().all(whole), "{:?}", usual.home);
-        let least = training.fit(&with_floor(5e-324)).unwrap();
+        let least = training.fit_tuned(&with_floor(5e-324)).unwrap();
         assert_eq!((least.home, least.iterations), (usual.home, 1));
     }
     let parts = |floor| {
-        let home = nu().fit(&with_floor(floor)).unwrap().home;
+        let home = nu().fit_tuned(&with_floor(floor)).unwrap().home;
         let whole = home.iter().map(|x| x.abs()).fold(0.0, f64::max);
         home.iter().map(|x| x / whole).collect::<Vec<f64>>()
     };
@@ -123,10 +131,10 @@ fn where_no_pair_is_flat_the_floor_has_no_say() {
                 let options = Options {
                     eps: 1e-3,
                     budget: 300,
-                    floor,
                     ..Options::default()
                 };
-                format!("{:?}", fit_general(&l.general(nu_rule), &options).unwrap())
+                let training = Training::General(l.general(nu_rule));
+                format!("{:?}", training.fit_tuned(&told(floor, options)).unwrap())
             });
             assert!(fits.iter().all(|fit| *fit == fits[0]));
             steps += usize::from(!fits[0].contains("iterations: 0,"));
@@ -150,21 +158,23 @@ fn a_bad_floor_is_refused_in_its_place() {
     for training in kinds().into_iter().map(|(t, _)| t).chain([nu()]) {
         for floor in bad {
             for shrinking in [false, true] {
+                let fit = |options| training.fit_tuned(&told(floor, options));
                 let options = Options {
                     shrinking,
-                    ..with_floor(floor)
+                    budget: 2,
+                    ..Options::default()
                 };
-                assert_eq!(training.fit(&options), Err(Refusal::Floor));
+                assert_eq!(fit(options), Err(Refusal::Floor));
                 let options = Options {
                     budget: 0,
                     ..options
                 };
-                assert_eq!(training.fit(&options), Err(Refusal::Budget));
+                assert_eq!(fit(options), Err(Refusal::Budget));
                 let options = Options {
                     eps: -1.0,
                     ..options
                 };
-                assert_eq!(training.fit(&options), Err(Refusal::Eps));
+                assert_eq!(fit(options), Err(Refusal::Eps));
             }
         }
     }
@@ -175,6 +185,6 @@ fn a_bad_floor_is_refused_in_its_place() {
         },
         nu: 0.0,
     };
-    assert_eq!(without_nu.fit(&with_floor(0.0)), Err(Refusal::Nu));
+    assert_eq!(without_nu.fit_tuned(&with_floor(0.0)), Err(Refusal::Nu));
     assert_eq!((Refusal::Floor.number(), Refusal::Floor.index()), (14, 0));
 }

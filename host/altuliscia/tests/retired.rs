@@ -192,7 +192,7 @@ fn refusals_are_those_of_the_usual_fit() {
                     let off = Options {
                         eps,
                         budget,
-                        ..Options::default()
+                        shrinking: false,
                     };
                     let usual = fit_c(&problem, cpos, cneg, &off);
                     let found = fit_c_retired(&problem, cpos, cneg, &[false; 2], &off);

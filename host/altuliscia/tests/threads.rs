@@ -15,7 +15,6 @@ fn all_fits(seed: usize) -> String {
         eps: 0.001,
         shrinking: seed % 4 != 0,
         budget: 300,
-        floor: [1e-10, 1e-12, 1.0][seed % 3],
     };
     let off = Options {
         shrinking: false,
@@ -27,8 +26,10 @@ fn all_fits(seed: usize) -> String {
     };
     let (problem, general) = (l.problem(), l.general(seed % 2 == 0));
     let retired: Vec<bool> = (0..n).map(|k| k % 5 == seed % 5).collect();
+    let mut tuned = Tuned::from(options);
+    tuned.floor = [1e-10, 1e-12, 1.0][seed % 3];
     let answers = [
-        fit_general(&general, &options),
+        Training::General(general).fit_tuned(&tuned),
         fit_c(&problem, 2.0, 1.0, &options),
         fit_nu(&problem, 0.3, &options),
         fit_one_class(&samples, 0.4, &options),

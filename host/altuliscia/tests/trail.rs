@@ -107,8 +107,8 @@ fn count(step: &Step, counts: &mut Counts) {
 fn off(budget: u64) -> Options {
     Options {
         eps: 1e-3,
+        shrinking: false,
         budget,
-        ..Options::default()
     }
 }
 
@@ -316,19 +316,8 @@ fn what_stands_in_the_way_is_told() {
         shrinking: true,
         ..off(9)
     };
-    let floors = [1e-12, 1.0000000000000002e-10, 1.0];
-    let bad_floors = [0.0, 1.0000000000000002, f64::NAN];
     for training in kinds(&l, &retired) {
         assert_eq!(trail(&training, 0, &on), Err(NoTrail::Shrinking));
-        for floor in floors {
-            let other = Options { floor, ..off(9) };
-            assert_eq!(trail(&training, 0, &other), Err(NoTrail::Floor));
-        }
-        for floor in bad_floors {
-            let other = Options { floor, ..off(9) };
-            let refused = Err(NoTrail::Refused(Refusal::Floor));
-            assert_eq!(trail(&training, 0, &other), refused);
-        }
         let none = NoTrail::Sample { sample: 6, n: 6 };
         assert_eq!(trail(&training, 6, &off(9)), Err(none));
         let refused = Err(NoTrail::Refused(Refusal::Budget));

@@ -16,7 +16,7 @@ mod trouble;
 
 pub use trouble::Trouble;
 
-use altuliscia::{Answer, OneClass, Options, Problem, Refusal, Training};
+use altuliscia::{Answer, OneClass, Options, Problem, Refusal, Training, Tuned};
 use arguments::{Call, Command, Fit, Settings, Words};
 use problem::Samples;
 use std::io::Write;
@@ -125,7 +125,9 @@ fn trained(s: &Samples, settings: &Settings, costs: (f64, f64)) -> Result<Answer
 /// What the library answers.
 fn answered(s: &Samples, settings: &Settings, costs: (f64, f64)) -> Result<Answer, Refusal> {
     let labels = s.positive();
-    training(s, settings, costs, &labels).fit(&options(settings))
+    let mut tuned = Tuned::from(options(settings));
+    tuned.floor = settings.floor;
+    training(s, settings, costs, &labels).fit_tuned(&tuned)
 }
 
 fn options(settings: &Settings) -> Options {
@@ -133,7 +135,6 @@ fn options(settings: &Settings) -> Options {
         eps: settings.eps,
         shrinking: settings.shrinking,
         budget: settings.budget,
-        floor: settings.floor,
     }
 }
 

@@ -245,7 +245,6 @@ mod tests {
         assert!(told.to_string().starts_with(start), "{}", told);
         assert_eq!(trouble("a", NoTrail::Refused(Refusal::Nu)).status(), 19);
         assert_eq!(trouble("a", NoTrail::Shrinking).status(), 2);
-        assert_eq!(trouble("a", NoTrail::Floor).status(), 2);
     }
 
     #[test]

@@ -1,7 +1,5 @@
 //! A problem as a text file holds it.
-use altuliscia::{
-    fit_c, fit_general, fit_nu, fit_one_class, Answer, General, OneClass, Options, Problem, Refusal,
-};
+use altuliscia::{Answer, General, OneClass, Options, Problem, Refusal, Training, Tuned};
 use std::collections::HashMap;
 use std::str::FromStr;
 
@@ -109,13 +107,13 @@ impl Given {
             eps: self.one_or("eps", usual.eps)?,
             shrinking: self.flag("shrinking")?,
             budget: self.one_or("budget", usual.budget)?,
-            floor: self.one_or("floor", usual.floor)?,
         })
     }
 
     /// Trains it. The outer error is one of the file, the inner one a refusal.
     pub fn fit(&self) -> Result<Result<Answer, Refusal>, String> {
-        let options = self.options()?;
+        let mut tuned = Tuned::from(self.options()?);
+        tuned.floor = self.one_or("floor", tuned.floor)?;
         let n: usize = self.one("n")?;
         let matrix: Vec<f64> = self.list("matrix")?;
         let fit: String = self.one("fit")?;
@@ -131,11 +129,22 @@ impl Given {
             labels: &self.labels,
         };
         Ok(match fit.as_str() {
-            "c" => fit_c(&problem, self.one("cpos")?, self.one("cneg")?, &options),
-            "nu" => fit_nu(&problem, self.one("nu")?, &options),
+            "c" => {
+                let (cpos, cneg) = (self.one("cpos")?, self.one("cneg")?);
+                Training::C {
+                    problem,
+                    cpos,
+                    cneg,
+                }
+                .fit_tuned(&tuned)
+            }
+            "nu" => {
+                let nu = self.one("nu")?;
+                Training::Nu { problem, nu }.fit_tuned(&tuned)
+            }
             "one-class" => {
-                let samples = OneClass { n, matrix: &matrix };
-                fit_one_class(&samples, self.one("nu")?, &options)
+                let (samples, nu) = (OneClass { n, matrix: &matrix }, self.one("nu")?);
+                Training::OneClass { samples, nu }.fit_tuned(&tuned)
             }
             "general" => {
                 let general = General {
@@ -145,7 +154,7 @@ impl Given {
                     linear: &self.list("linear")?,
                     nu_rule: self.flag("nu-rule")?,
                 };
-                fit_general(&general, &options)
+                Training::General(general).fit_tuned(&tuned)
             }
             other => return Err(format!("there is no fit '{}'", other)),
         })
