@@ -9,15 +9,15 @@ mod rust;
 
 use given::{captions, points, Given, Task};
 use peers::{Libsvm, Sklearn};
-use rows::{compared, measured, Answers};
+use rows::{before, compared, measured, Answers};
 use std::path::{Path, PathBuf};
 use std::process::ExitCode;
 
 const HELP: &str = "bench table PAGE FOLDER MACHINE [FILE..]
     times all and writes PAGE; FOLDER is for what is drawn and counted, MACHINE a file with a line for each thing to say of the machine
 bench quick
-    compares the library with the Rust, bit for bit, on the drawn matrices of 64 and 128 samples
-bench once library|rust|libsvm FILE TASK SHRINKING
+    compares the library with the Rust, bit for bit, on the drawn matrices of 64 and 128 samples, and with shrinking off its two trainers
+bench once library|first|rust|libsvm FILE TASK SHRINKING
     one training; TASK is c:10, nu:0.3 or one-class:0.2, say, SHRINKING 0 or 1";
 
 /// The threshold of every training.
@@ -84,19 +84,21 @@ fn read(file: &str) -> Option<Given> {
 }
 
 fn quick() -> bool {
-    let mut fine = true;
+    let (mut all, mut differ) = (0, 0);
     for given in [captions(64), points(64), captions(128), points(128)] {
         for task in Task::ALL {
             for shrinking in [false, true] {
+                all += 1;
                 if compared(&given, task, shrinking).0 == Answers::Differ {
                     let (name, n, task) = (&given.name, given.n, task.name());
                     println!("{name}, n = {n}, {task}, shrinking {shrinking}: the answers differ");
-                    fine = false;
+                    differ += 1;
                 }
             }
         }
     }
-    fine
+    println!("{all} trainings, differ {differ}");
+    differ == 0
 }
 
 fn once(who: &str, file: &str, task: &str, shrinking: &str) -> Option<bool> {
@@ -104,6 +106,7 @@ fn once(who: &str, file: &str, task: &str, shrinking: &str) -> Option<bool> {
     let (task, shrinking) = (Task::read(task)?, shrinking != "0");
     match who {
         "library" => library::Library::new(&given, task, shrinking).fit(),
+        "first" if !shrinking => library::First::new(&given, task).fit(),
         "rust" => rust::Rust::new(&given, task, shrinking).fit(),
         "libsvm" => {
             let mut libsvm = Libsvm::new(&given, task, shrinking)?;
@@ -160,6 +163,7 @@ fn table(page: &str, folder: &str, machine: &str, files: &[&str]) -> Option<bool
     let count = |who, function| counted::counted(folder, &file, who, function);
     let counts = [
         count("library", "altuliscia_c"),
+        count("first", "altuliscia_general"),
         count("rust", "rust_fit"),
         if cfg!(libsvm) {
             count("libsvm", "svm_train")
@@ -173,10 +177,15 @@ fn table(page: &str, folder: &str, machine: &str, files: &[&str]) -> Option<bool
     } else {
         machine += "- scikit-learn: missing (`apt install python3-sklearn`)\n";
     }
+    let largest = all.iter().filter(|given| given.n == 512);
+    let before = largest.flat_map(|given| Task::ALL.map(|task| before(given, task, effort)));
+    let touched = std::fs::read_to_string(folder.join("touched"));
     let beside = page::Beside {
         counts: &counts,
         counted_on,
         machine: &machine,
+        before: &before.flatten().collect::<Vec<_>>(),
+        touched: &touched.unwrap_or_default(),
     };
     let text = page::text(&rows, &beside);
     std::fs::write(page, text).ok()?;

@@ -1,6 +1,6 @@
-//! One row of the table: four contenders on one problem, taken in turn, and their answers compared.
+//! One row of the table: the contenders on one problem, taken in turn, and their answers compared.
 use crate::given::{Given, Task};
-use crate::library::Library;
+use crate::library::{First, Library};
 use crate::peers::{Libsvm, Sklearn};
 use crate::rust::{oracle, Rust};
 use crate::{median, Fit};
@@ -25,14 +25,18 @@ pub struct Row {
     pub passes: u64,
     pub libsvm_passes: Option<u64>,
     pub sklearn_passes: Option<u64>,
-    /// Nanoseconds of each turn: library, Rust, LIBSVM, scikit-learn; empty where it isn't there.
-    pub times: [Vec<f64>; 4],
+    /// Nanoseconds of each turn: library, Rust, LIBSVM, scikit-learn, the library's first trainer; empty where it isn't there.
+    pub times: [Vec<f64>; WHO],
 }
+
+pub const WHO: usize = 5;
 
 pub const LIBRARY: usize = 0;
 pub const RUST: usize = 1;
 pub const LIBSVM: usize = 2;
 pub const SKLEARN: usize = 3;
+/// With shrinking on the library is the first trainer, and nothing stands here.
+pub const FIRST: usize = 4;
 
 impl Row {
     /// The median of the ratios of contender a to contender b, turn by turn.
@@ -57,7 +61,14 @@ fn warm(given: &Given) {
     std::hint::black_box(given.matrix.iter().sum::<f64>());
 }
 
-/// The library beside the oracle and beside the Rust that is timed.
+/// Whether the first trainer answers the same.
+fn trainers_agree(given: &Given, task: Task, fit: &Fit) -> bool {
+    let mut first = First::new(given, task);
+    first.fit();
+    first.fitted().is_ok_and(|other| Fit::same(fit, &other))
+}
+
+/// The library beside the oracle and beside the Rust that is timed; both trainers with shrinking off.
 pub fn compared(given: &Given, task: Task, shrinking: bool) -> (Answers, u64) {
     let (mut library, mut rust) = (
         Library::new(given, task, shrinking),
@@ -71,7 +82,10 @@ pub fn compared(given: &Given, task: Task, shrinking: bool) -> (Answers, u64) {
         rust.fitted(),
     ) {
         (Ok(a), Ok(b), Some(c)) if Fit::same(&a, &b) && Fit::same(&a, &c) => {
-            (Answers::Equal, a.iterations)
+            match shrinking || trainers_agree(given, task, &a) {
+                true => (Answers::Equal, a.iterations),
+                false => (Answers::Differ, 0),
+            }
         }
         (Err(11), Err(11), None) => (Answers::Refused, 0),
         _ => (Answers::Differ, 0),
@@ -102,6 +116,7 @@ pub fn measured(
         times: Default::default(),
     };
     let mut library = Library::new(given, task, shrinking);
+    let mut first = (!shrinking).then(|| First::new(given, task));
     let mut rust = Rust::new(given, task, shrinking);
     let mut libsvm = Libsvm::new(given, task, shrinking);
     let mut turns = TURNS.0;
@@ -110,9 +125,13 @@ pub fn measured(
         if turn > turns {
             break;
         }
-        let mut times = [None; 4];
+        let mut times = [None; WHO];
         warm(given);
         times[LIBRARY] = Some(timed(|| library.fit()));
+        if let Some(first) = &mut first {
+            warm(given);
+            times[FIRST] = Some(timed(|| first.fit()));
+        }
         if answers != Answers::Refused {
             warm(given);
             times[RUST] = Some(timed(|| rust.fit()));
@@ -138,4 +157,47 @@ pub fn measured(
         }
     }
     row
+}
+
+/// What of a training with shrinking off is spent before the passes: medians in nanoseconds.
+pub struct Before {
+    pub name: String,
+    pub n: usize,
+    pub task: Task,
+    pub whole: f64,
+    /// The call with a budget of 0: refused with 10, once every entry is judged.
+    pub judged: f64,
+    /// With a budget of 1.
+    pub one_pass: f64,
+}
+
+const BEFORE_TURNS: (f64, f64) = (401.0, 21.0);
+
+pub fn before(given: &Given, task: Task, effort: f64) -> Option<Before> {
+    let mut calls = [crate::library::BUDGET, 0, 1].map(|budget| {
+        let mut library = Library::new(given, task, false);
+        library.budget = budget;
+        library
+    });
+    let mut times: [Vec<f64>; 3] = Default::default();
+    let (most, least) = BEFORE_TURNS;
+    for _ in 0..(effort * most).clamp(least, most) as usize {
+        for (library, times) in calls.iter_mut().zip(&mut times) {
+            warm(given);
+            times.push(timed(|| library.fit()));
+        }
+    }
+    let refused = |k: usize| calls[k].fitted().err();
+    if (refused(0), refused(1), refused(2)) != (None, Some(10), None) {
+        return None;
+    }
+    let [whole, judged, one_pass] = times.map(median);
+    Some(Before {
+        name: given.name.clone(),
+        n: given.n,
+        task,
+        whole: whole?,
+        judged: judged?,
+        one_pass: one_pass?,
+    })
 }

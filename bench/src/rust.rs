@@ -1,5 +1,6 @@
 //! The published Rust: as it is timed, and as the oracle runs it to be compared with.
 use crate::given::{Given, Task};
+use crate::library::BUDGET;
 use crate::{Fit, EPS};
 use linfa_kernel::Kernel;
 use ndarray::ArrayView2;
@@ -69,8 +70,8 @@ fn rust_fit(rust: &Rust) -> Svm<f64, f64> {
     }
 }
 
-/// What the oracle answers, or the number of its refusal; 0 where it failed.
-pub fn oracle(given: &Given, task: Task, shrinking: bool) -> Result<Fit, u64> {
+/// The problem as the oracle has it.
+pub fn problem(given: &Given, task: Task, shrinking: bool) -> Problem {
     let (entry, cost, nu) = match task {
         Task::C(c) => (Entry::C, c, 0.0),
         Task::Nu(nu) => (Entry::Nu, 0.0, nu),
@@ -81,8 +82,13 @@ pub fn oracle(given: &Given, task: Task, shrinking: bool) -> Result<Fit, u64> {
         p.labels = given.labels.clone();
     }
     (p.cpos, p.cneg, p.nu, p.eps) = (cost, cost, nu, EPS);
-    (p.shrinking, p.budget) = (shrinking, 10_000_000);
-    match oracle::solve(&p, false).outcome {
+    (p.shrinking, p.budget) = (shrinking, BUDGET);
+    p
+}
+
+/// What the oracle answers, or the number of its refusal; 0 where it failed.
+pub fn oracle(given: &Given, task: Task, shrinking: bool) -> Result<Fit, u64> {
+    match oracle::solve(&problem(given, task, shrinking), false).outcome {
         Outcome::Accepted(a) => Ok(Fit {
             rho: a.rho,
             obj: a.obj,

@@ -52,7 +52,7 @@ from array import array
 from collections import namedtuple
 from itertools import compress
 
-__version__ = "1.3.0"
+__version__ = "1.4.0"
 
 MOST_SAMPLES = 512
 MOST_PASSES = 10_000_000

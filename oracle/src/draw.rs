@@ -18,11 +18,13 @@ use crate::run::solve;
 mod faint;
 mod retired;
 mod step;
+mod still;
 mod tuned;
 
 pub use faint::{draw_big_faint, draw_faint};
 pub use retired::{draw_retired, redraw_retired};
 pub use step::draw_step;
+pub use still::{draw_big_still, draw_still};
 pub use tuned::{draw_big_tuned, draw_tuned, FLOORS};
 
 /// The least f64 above 0.

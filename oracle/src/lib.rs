@@ -5,6 +5,7 @@
 //! - [`judge`]: every refusal but 11, before anything runs.
 //! - [`run`]: the run itself, refusal 11, both readings; a single step.
 //! - [`retired`]: retired samples, taken out before a run and put back.
+//! - [`general`]: C, nu and one-class as problems of the general entry.
 //! - [`draw`]: problems and single steps from a 64-bit seed.
 //! - [`marks`]: what a drawn or recorded set reaches.
 //! - [`record`]: the file of recorded answers.
@@ -12,6 +13,7 @@
 //! - [`show`]: a problem and its answer for a reader.
 
 pub mod draw;
+pub mod general;
 pub mod judge;
 pub mod marks;
 pub mod problem;
@@ -22,7 +24,7 @@ pub mod run;
 pub mod show;
 pub mod worked;
 
-pub use draw::{draw, draw_faint, draw_retired, draw_step, draw_tuned};
+pub use draw::{draw, draw_faint, draw_retired, draw_step, draw_still, draw_tuned};
 pub use judge::{judge, Refusal};
 pub use problem::{Entry, Problem};
 pub use run::{solve, step, Accepted, Answer, Given, Outcome, Reason};

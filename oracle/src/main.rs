@@ -2,7 +2,8 @@
 
 use oracle::marks::{Owed, Tally};
 use oracle::{
-    draw, draw_faint, draw_retired, draw_tuned, record, show, solve, worked, Outcome, Problem,
+    draw, draw_faint, draw_retired, draw_still, draw_tuned, record, show, solve, worked, Outcome,
+    Problem,
 };
 use std::process::ExitCode;
 use std::time::Instant;
@@ -21,6 +22,8 @@ const HELP: &str = "oracle COMMAND
                     the same of problems with weights near the support limit
   draw tuned SEED COUNT, show tuned SEED
                     the same of problems with floors of their own
+  draw still SEED COUNT, show still SEED
+                    the same of problems with shrinking off, of C, nu and one-class
 ";
 
 fn main() -> ExitCode {
@@ -34,10 +37,12 @@ fn main() -> ExitCode {
         ["draw", "retired", seed, count] => run_draw(draw_retired, Owed::Retired, seed, count),
         ["draw", "faint", seed, count] => run_draw(draw_faint, Owed::Faint, seed, count),
         ["draw", "tuned", seed, count] => run_draw(draw_tuned, Owed::Tuned, seed, count),
+        ["draw", "still", seed, count] => run_draw(draw_still, Owed::Still, seed, count),
         ["show", seed] => run_show(draw, seed),
         ["show", "retired", seed] => run_show(draw_retired, seed),
         ["show", "faint", seed] => run_show(draw_faint, seed),
         ["show", "tuned", seed] => run_show(draw_tuned, seed),
+        ["show", "still", seed] => run_show(draw_still, seed),
         _ => Err(HELP.to_string()),
     };
     match result {

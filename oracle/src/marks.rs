@@ -5,11 +5,13 @@ use crate::judge::faults;
 use crate::problem::{Entry, Problem, BAD_FLOOR, LAST_REFUSAL, LIMIT, MOST_PASSES};
 use crate::run::{canonical, Accepted, Answer, Outcome, Place, Reason};
 use faint::{FAINT, WRONG};
+use still::{Still, STILL};
 use tuned::{Tuned, TUNED};
 
 mod faint;
 mod retired;
 mod step;
+mod still;
 mod tuned;
 
 pub use retired::RETIRED;
@@ -26,6 +28,8 @@ pub enum Owed {
     Faint,
     /// The same, of what `draw_tuned` draws.
     Tuned,
+    /// The same, of what `draw_still` draws.
+    Still,
     /// It has never been seen, or must never be.
     None,
 }
@@ -62,6 +66,9 @@ pub fn names() -> Vec<(String, Owed)> {
         all.push((name, Owed::Faint));
     }
     all.extend(tuned_names().map(|name| (name, Owed::Tuned)));
+    for (name, _) in STILL {
+        all.push((format!("shrinking off: {name}"), Owed::Still));
+    }
     let part = "the readings have different support counts";
     all.push((part.into(), Owed::None));
     all.push(("accepted: weight NaN or infinite".into(), Owed::None));
@@ -138,6 +145,10 @@ pub fn marks(p: &Problem, answer: &Answer) -> Vec<bool> {
         all.push(p.entry == entry && tells);
     }
     all.extend(tuned_marks(p, answer));
+    let still = Still::of(p, answer);
+    for (_, test) in STILL {
+        all.push(still.as_ref().map_or(false, test));
+    }
     all.push(accepted.map_or(false, faint::readings_part));
     all.push(accepted.map_or(false, |a| a.weights.iter().any(|w| !w.is_finite())));
     all.push(answer.events.second_not_optimal > 0);

@@ -49,6 +49,9 @@ impl Entry {
     /// that a seed means what it always did.
     pub const DRAWN: [Entry; 4] = [Entry::General, Entry::C, Entry::Nu, Entry::OneClass];
 
+    /// Those that with shrinking off train without an order table.
+    pub const STILL: [Entry; 3] = [Entry::C, Entry::Nu, Entry::OneClass];
+
     /// The entry's number in a record.
     pub fn number(self) -> u64 {
         self as u64

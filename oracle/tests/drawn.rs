@@ -8,11 +8,12 @@ use oracle::problem::MOST_PASSES;
 use oracle::record::{record, Told};
 use oracle::run::canonical;
 use oracle::{
-    draw, draw_faint, draw_retired, draw_tuned, judge, solve, Accepted, Entry, Outcome, Problem,
+    draw, draw_faint, draw_retired, draw_still, draw_tuned, judge, solve, Accepted, Entry, Outcome,
+    Problem,
 };
 
 type Draw = fn(u64) -> Problem;
-const ALL: [Draw; 4] = [draw, draw_retired, draw_faint, draw_tuned];
+const ALL: [Draw; 5] = [draw, draw_retired, draw_faint, draw_tuned, draw_still];
 
 const DRAWS: u64 = 100_000;
 
@@ -81,6 +82,28 @@ fn tuned_draws_reach_every_kind() {
     // the floor is what makes the answer
     let told = tally.count("floor: another answer than at 1e-10");
     assert!(told > 3000, "{told}");
+}
+
+/// Shrinking off, of three entries; numbers, infinities and NaN among the
+/// gradients, and equals.
+#[test]
+fn still_draws_reach_every_kind() {
+    let mut tally = Tally::owing(&[Owed::Still]);
+    for seed in 0..10_000 {
+        let p = draw_still(seed);
+        assert!(!p.shrinking && Entry::STILL.contains(&p.entry));
+        tally.add(&p, &solve(&p, false));
+    }
+    let wrong = tally.wrong();
+    assert!(wrong.is_empty(), "{wrong:?}\n{}", tally.lines().join("\n"));
+    // rare things are not left to luck
+    for (name, least) in [
+        ("a first eight places behind a NaN", 100),
+        ("a first that has an equal", 500),
+    ] {
+        let count = tally.count(&format!("shrinking off: {name}"));
+        assert!(count >= least, "{count}: {name}");
+    }
 }
 
 /// The other draws have the usual floor.

@@ -86,6 +86,6 @@ pairHost ai bi aj bj gi gj di dj r agree out =
     (pairHanded 2 out)
     (pairHanded 0 (withPair out (foundPair (weight (asFloat ai) (asFloat bi)) (weight (asFloat aj) (asFloat bj)) (asFloat gi) (asFloat gj) (asFloat di) (asFloat dj) (asFloat r) (isOn agree))))
 
--- 10000·major + 100·minor + patch: 1.3.0
+-- 10000·major + 100·minor + patch: 1.4.0
 abbrev pub version : ℕ
-version = 10300
+version = 10400

@@ -371,5 +371,5 @@ pub extern "C" fn altuliscia_pair(
 pub extern "C" fn altuliscia_version() -> u64
     ensures { λ k. ⌜ _≡_ {A = ℕ} k version ⌝ }
 {
-    10300
+    10400
 }

@@ -5,18 +5,20 @@ use mathlib.Core.List.{List}
 use mathlib.Core.Path.{_≡_, refl, sym, ap, _∙_}
 use native.Mathlib.Decide.{ℕ-discrete}
 use native.Mathlib.Omega.{arith}
-use lib.Ieee.{Float, nan}
+use lib.Dec.{T}
+use lib.Ieee.{Float, nan, binary64, fits}
 use lib.ListN.{length, getD}
 use Rattle.kernel.specs.Row.{signedOf}
 use Rattle.orderless.specs.Choice.{choiceIn}
 use Rattle.orderless.specs.Run.{spread, Course, passes, goesOn, broughtTo, openedTo, opened}
 use Rattle.orderless.specs.Sheet.{sized, readIn, entry}
 use Rattle.orderless.specs.Step.{steps}
+use Rattle.orderless.proofs.Fits.{steps-up, steps-down, start-up, start-down}
 use Rattle.orderless.proofs.Laid.{steps-diagonal}
 use Rattle.orderless.proofs.Starts.{length-brought, brought-other, opened-diagonal}
 use Rattle.rho.specs.Rho.{positiveIn}
 use Rattle.rows.proofs.Filled.{filled-length, filled-other, filled-at}
-use Rattle.sheet.specs.Ready.{SheetReady, Diagonal}
+use Rattle.sheet.specs.Ready.{SheetReady, Diagonal, Fitting}
 use Rattle.solver.specs.declared.Given.{Given}
 use Rattle.course.specs.Filled.{diagonalIn, joinedIn}
 
@@ -68,6 +70,18 @@ diagonal-started g m y top term f long D = record {
       opened-diagonal g m y top (broughtTo g m y top term f (g .n)) (rw (length-brought g m y top term f (g .n)) (room (g .nu) (g .n) (length f) long)) (g .n) (omega arith) k K
       ∙ brought-other g m y top term f (g .n) (2 * g .n + k) (omega arith) ∙ D .at k K;
 }
+
+-- ---- every copy is a value of the format
+
+pub fitting-steps : (g : Given) (m y : List ℕ) (top : Bool → Float) (f h : List Float) (i j : ℕ) → SheetReady g m y f → i < g .n → j < g .n → h ≡ steps g m y top f i j → Fitting g h
+fitting-steps g m y top f h i j R I J e =
+    let r = room (g .nu) (g .n) (length f) (R .floats) in
+    rw e (record { ups = steps-up g m y top f r i j I J; downs = steps-down g m y top f r i j I J })
+
+pub fitting-started : (g : Given) (m y : List ℕ) (top : Bool → Float) (p : Float) (f : List Float) → 5 * g .n ≤ length f → T (fits binary64 p) → Fitting g (opened g m y top (λ k. p) f)
+fitting-started g m y top p f long held =
+    let r = room (g .nu) (g .n) (length f) long in
+    record { ups = start-up g m y top (λ k. p) f r (λ k K. held); downs = start-down g m y top (λ k. p) f r (λ k K. held) }
 
 -- ---- F before the first pass
 

@@ -3,8 +3,8 @@
 ghost use mathlib.Core.Bool.{true, cond};
 ghost use mathlib.Core.Path.{_≡_};
 ghost use Prim.Native.Nat.{_+_, _*_, _≤_, _<_};
-ghost use lib.Dec.{eqb};
-ghost use lib.Ieee.{binary64, nan, mul, eq};
+ghost use lib.Dec.{T, eqb};
+ghost use lib.Ieee.{binary64, fits, nan, mul, eq};
 ghost use lib.ListN.{length, getD};
 ghost use Rattle.alpha.specs.Weight as Weight;
 ghost use Rattle.course.specs.Filled.{diagonalIn, joinedIn};
@@ -15,7 +15,7 @@ ghost use Rattle.orderless.specs.End.{shareCOf, shareNuOf, levelIn, objectiveIn
 ghost use Rattle.orderless.specs.Run.{spread, raisedTo, openedTo, Course, course, passes, goesOn, orderless};
 ghost use Rattle.orderless.specs.Sheet.{readIn, ceilingsOf, alphaOf};
 ghost use Rattle.orderless.specs.Step.{slope as slopeIn};
-ghost use Rattle.sheet.specs.Ready.{SheetReady, Diagonal};
+ghost use Rattle.sheet.specs.Ready.{SheetReady, Diagonal, Fitting};
 use extreme::Choice;
 use rho::Level;
 use rho::Share;
@@ -98,10 +98,11 @@ fn open(f: &mut [f64], y: &[u8], m: &[u8], g: Given, cpos: f64, cneg: f64)
 
 // One pass: the pair and its step, or the end.
 fn pass(f: &mut [f64], y: &[u8], m: &[u8], g: Given, cpos: f64, cneg: f64, w: Went) -> Went
-    requires { ⌜ (SheetReady g (now m) (now y) (now f)) × (Diagonal g (now m) (now f)) × (1 ≤ g .n) × (w .steps < 10000000) ⌝ }
+    requires { ⌜ (SheetReady g (now m) (now y) (now f)) × (Diagonal g (now m) (now f)) × (Fitting g (now f)) × (1 ≤ g .n) × (w .steps < 10000000) ⌝ }
     ensures { λ r. ⌜ (_≡_ {A = Course} (course (now (f .exit)) (r .steps) (r .going)) (passes g (now (m .entry)) (now (y .entry)) (ceilingsOf cpos cneg)
         (course (now (f .entry)) (w .steps) (w .going)) (choiceIn g (now (m .entry)) (now (y .entry)) (readIn (g .nu) (g .n) (now (f .entry))))))
-        × (r .steps ≤ w .steps + 1) × (SheetReady g (now (m .entry)) (now (y .entry)) (now (f .exit))) × (Diagonal g (now (m .entry)) (now (f .exit))) ⌝ }
+        × (r .steps ≤ w .steps + 1) × (SheetReady g (now (m .entry)) (now (y .entry)) (now (f .exit))) × (Diagonal g (now (m .entry)) (now (f .exit)))
+        × (Fitting g (now (f .exit))) ⌝ }
 {
     let c = picks::choice(f, y, m, g);
     match c {
@@ -121,7 +122,7 @@ fn pass(f: &mut [f64], y: &[u8], m: &[u8], g: Given, cpos: f64, cneg: f64, w: We
 
 // At most budget passes.
 fn go_on(f: &mut [f64], y: &[u8], m: &[u8], g: Given, cpos: f64, cneg: f64, budget: usize) -> Went
-    requires { ⌜ (SheetReady g (now m) (now y) (now f)) × (Diagonal g (now m) (now f)) × (1 ≤ g .n) × (budget ≤ 10000000) ⌝ }
+    requires { ⌜ (SheetReady g (now m) (now y) (now f)) × (Diagonal g (now m) (now f)) × (Fitting g (now f)) × (1 ≤ g .n) × (budget ≤ 10000000) ⌝ }
     ensures { λ r. ⌜ _≡_ {A = Course} (course (now (f .exit)) (r .steps) (r .going))
         (goesOn g (now (m .entry)) (now (y .entry)) (ceilingsOf cpos cneg) (course (now (f .entry)) 0 true) budget) ⌝ }
 {
@@ -151,7 +152,7 @@ pub fn train(
     cneg: f64,
     budget: usize,
 ) -> Went
-    requires { ⌜ (SheetReady g (now m) (now y) (now f)) × (1 ≤ g .n) × (budget ≤ 10000000) ⌝ }
+    requires { ⌜ (SheetReady g (now m) (now y) (now f)) × (1 ≤ g .n) × (budget ≤ 10000000) × (T (fits binary64 p)) ⌝ }
     ensures { λ r. ⌜ _≡_ {A = Course} (course (now (f .exit)) (r .steps) (r .going))
         (orderless g (now (m .entry)) (now (y .entry)) (ceilingsOf cpos cneg) (λ k. p) (diagonalIn g (now (m .entry)) (now (f .entry)) (g .n)) budget) ⌝ }
 {

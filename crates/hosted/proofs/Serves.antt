@@ -8,6 +8,8 @@ use native.Mathlib.Omega.{arith}
 use borrow.Author.Tests.{leb-true, eqb-true}
 use lib.Dec.{eqb, leb}
 use lib.Ieee.{Float}
+use lib.ListN.{length, length-replicate}
+use Rattle.alpha.specs.Weight as Weight
 use Rattle.answer.specs.Lent.{lent}
 use Rattle.judge.specs.Sizes.{Room}
 use Rattle.judge.proofs.Lengths.{inputs-of, room-of, long-enough}
@@ -70,6 +72,12 @@ lists-long n l c a p x y z ex ey ez h =
 pub room-given : (c h f : List Float) (u y : List ℕ) → c ≡ freshPlaces → h ≡ freshPlaces → f ≡ freshFloats → u ≡ freshNumbers → y ≡ freshBytes
     → lent c h f u y ≡ room
 room-given c h f u y ec eh ef eu ey = rw (ec, eh, ef, eu, ey)
+
+-- its lists are as long as the numbers say
+pub room-long : (n m : ℕ) → Room n m 512 512 3584 1024 512
+    → Room n m (length freshPlaces) (length freshPlaces) (length freshFloats) (length freshNumbers) (length freshBytes)
+unfolding freshPlaces freshFloats freshNumbers freshBytes
+room-long n m R = rw (length-replicate {A = Float} 512 Weight.zero, length-replicate {A = Float} 3584 Weight.zero, length-replicate {A = ℕ} 1024 0, length-replicate {A = ℕ} 512 0) R
 
 pub decoded-fresh : (b : List ℕ) (e d : List Float) (n : ℕ) → e ≡ freshPlaces → d ≡ decodedTo b e n → d ≡ floatsOf b n
 decoded-fresh b e d n x y = rw (y, x)

@@ -88,6 +88,10 @@ freshBytes = replicate 512 0
 abbrev pub room : Lent
 room = lent freshPlaces freshPlaces freshFloats freshNumbers freshBytes
 
+-- the floats of a training without an order table
+unfoldable pub freshSheet : List Float
+freshSheet = replicate 2560 Weight.zero
+
 -- n floats from their bytes
 abbrev pub floatsOf : List ℕ → ℕ → List Float
 floatsOf b n = decodedTo b freshPlaces n

@@ -4,7 +4,7 @@ ghost use mathlib.Core.Bool.{Bool};
 ghost use Prim.Native.Nat.{ℕ, _+_, _*_, _≤_, _<_};
 ghost use lib.ListN.{length};
 ghost use Rattle.answer.specs.Answer.{ratioThere, ratioBits, reasonNumber, wordsOf};
-ghost use Rattle.hosted.specs.Hosted.{decodedTo, storedTo, wordsTo, answeredBy, eights, zeroedTo, padded, tuningKnown, tuningOf, hostSizes, Handed, handed, deliveredBy, turnedAway, turnedWide, freshPlaces, freshFloats, freshNumbers, freshBytes};
+ghost use Rattle.hosted.specs.Hosted.{decodedTo, storedTo, wordsTo, answeredBy, eights, zeroedTo, padded, tuningKnown, tuningOf, hostSizes, Handed, handed, deliveredBy, turnedAway, turnedWide, freshPlaces, freshFloats, freshNumbers, freshBytes, freshSheet};
 use answer::ExitReason;
 use answer::Outcome;
 use answer::Ratio;
@@ -214,4 +214,11 @@ pub fn bytes() -> [u8; 512]
     ensures { λ r. ⌜ (r ≡ freshBytes) × (512 ≡ length r) ⌝ }
 {
     [0; 512]
+}
+
+// For a training without an order table: five floats to a sample.
+pub fn sheet() -> [f64; 2560]
+    ensures { λ r. ⌜ (r ≡ freshSheet) × (2560 ≡ length r) ⌝ }
+{
+    [0.0; 2560]
 }

@@ -6,6 +6,7 @@ pub mod Stepped
 pub mod Laid
 pub mod Runs
 pub mod Starts
+pub mod Fits
 pub mod Ends
 pub mod Lent
 pub mod Equal

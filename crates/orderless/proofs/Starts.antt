@@ -59,7 +59,7 @@ module _ (v : ℕ → Float) (l : List Float) where
   unfolding raisedTo
   raisedTo-other n k h = filled-other (raisedTo v l) (λ k. k) (λ k x. add binary64 x (v k)) (λ k. refl) (λ h k g e. omega arith) n k (λ i r e. omega arith)
 
-  raisedTo-at : (n k : ℕ) → k < n → n ≤ length l → getD (raisedTo v l n) k nan ≡ add binary64 (getD l k nan) (v k)
+  pub raisedTo-at : (n k : ℕ) → k < n → n ≤ length l → getD (raisedTo v l n) k nan ≡ add binary64 (getD l k nan) (v k)
   unfolding raisedTo
   raisedTo-at n k h r = filled-at (raisedTo v l) (λ k. k) (λ k x. add binary64 x (v k)) (λ k. refl) (λ h k g e. omega arith) n k h (omega arith)
 
@@ -144,7 +144,7 @@ module _ (g : Given) (m y : List ℕ) (top : Bool → Float) (l : List Float) (l
       ≡ putIn (g .nu) (g .n) (done c) c (positiveIn y c) (weightTo g m y top c (getD l (g .n + c) nan)) (getD l c nan)
   turn c C = ap₂ (λ (x z : Float). putIn (g .nu) (g .n) (done c) c (positiveIn y c) (weightTo g m y top c x) z) (opened-weight c (omega arith) c C) (opened-later c (omega arith) c C (omega arith))
 
-  opened-down : (c : ℕ) → c ≤ g .n → (q : ℕ) → q < c → getD (done c) (3 * g .n + q) nan ≡ downPut (positiveIn y q) (weightTo g m y top q (getD l (g .n + q) nan)) (getD l q nan)
+  pub opened-down : (c : ℕ) → c ≤ g .n → (q : ℕ) → q < c → getD (done c) (3 * g .n + q) nan ≡ downPut (positiveIn y q) (weightTo g m y top q (getD l (g .n + q) nan)) (getD l q nan)
   unfolding openedTo
   opened-down zero h q r = let z : ⊥ = omega arith in absurd z
   opened-down (suc c) h q r = ap (λ (f : List Float). getD f (3 * g .n + q) nan) (turn c (omega arith)) ∙ go (ℕ-discrete q c) (opened-down c (omega arith) q)
@@ -157,7 +157,7 @@ module _ (g : Given) (m y : List ℕ) (top : Bool → Float) (l : List Float) (l
       go (yes e) s = put-down (g .n) (done c) c (omega arith) (positiveIn y c) w _ (g .nu) (room c (omega arith)) q (omega arith) (yes e) ∙ rw e
       go (no e) s = put-down (g .n) (done c) c (omega arith) (positiveIn y c) w _ (g .nu) (room c (omega arith)) q (omega arith) (no e) ∙ s (omega arith)
 
-  opened-up : (t : Bool) (c : ℕ) → c ≤ g .n → (q : ℕ) → q < c
+  pub opened-up : (t : Bool) (c : ℕ) → c ≤ g .n → (q : ℕ) → q < c
       → getD (done c) (upField (g .nu) (g .n) t + q) nan ≡ upPut (g .nu) t (positiveIn y q) (weightTo g m y top q (getD l (g .n + q) nan)) (getD l q nan)
   unfolding openedTo
   opened-up t zero h q r = let z : ⊥ = omega arith in absurd z
@@ -173,11 +173,11 @@ module _ (g : Given) (m y : List ℕ) (top : Bool → Float) (l : List Float) (l
       go (yes e) s = put-up (g .n) (done c) c (omega arith) (positiveIn y c) w _ (g .nu) (room c (omega arith)) t q (omega arith) (yes e) ∙ rw e
       go (no e) s = put-up (g .n) (done c) c (omega arith) (positiveIn y c) w _ (g .nu) (room c (omega arith)) t q (omega arith) (no e) ∙ s (omega arith)
 
-signed-fits : (pos : Bool) (x : Float) → T (fits binary64 x) → T (fits binary64 (signedOf pos x))
+pub signed-fits : (pos : Bool) (x : Float) → T (fits binary64 x) → T (fits binary64 (signedOf pos x))
 signed-fits true x h = h
 signed-fits false x h = neg-fits binary64 x h
 
-one-field : (nu : Bool) (n x : ℕ) → sized nu n ≤ x → n ≤ x
+pub one-field : (nu : Bool) (n x : ℕ) → sized nu n ≤ x → n ≤ x
 one-field true n x h = omega arith
 one-field false n x h = omega arith
 

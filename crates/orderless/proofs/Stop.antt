@@ -27,7 +27,6 @@ use Rattle.orderless.specs.Sheet.{Sheet, sought}
 use Rattle.orderless.proofs.Chosen.{low-sum}
 use Rattle.orderless.proofs.Copies.{le-bottom}
 use Rattle.orderless.proofs.Plain.{add-comm}
-use Rattle.orderless.proofs.Relation.{Mirrors}
 use Rattle.orderless.proofs.Stepped.{own-label}
 
 -- ---- the larger of two, one of which reaches e
@@ -117,14 +116,15 @@ module _ (may : ℕ → Bool) (value : ℕ → Float) (n j : ℕ) (J : j < n) (a
       go (At i) q = let r = last-greatest may value n in rw (r .value-is i q) (r .holds i q .most j J asked real)
       go Nobody q = absurd (last-greatest may value n .nobody .0 q j J asked real)
 
-module _ (g : Given) (m u y : List ℕ) (top : Bool → Float) (term : ℕ → Float) (f : List Float) (o : Sheet) (M : Mirrors g m u y top term f o) where
+module _ (g : Given) (m y : List ℕ) (o : Sheet) (ups : (t : Bool) (k : ℕ) → k < g .n → T (fits binary64 (o .up t k)))
+    (downs : (k : ℕ) → k < g .n → T (fits binary64 (o .down k))) where
   lowest-fits : (t : Bool) → T (fits binary64 (lowest g m y o t .value))
   unfolding lowest
-  lowest-fits t = best-fits (cond (g .nu) below atMost) (inf false) (λ k. true) (o .up t) (inf-fits binary64 false) (g .n) (λ k K. M .ups t k K .fit)
+  lowest-fits t = best-fits (cond (g .nu) below atMost) (inf false) (λ k. true) (o .up t) (inf-fits binary64 false) (g .n) (ups t)
 
   highest-fits : (t : Bool) → T (fits binary64 (highest g m y o t .value))
   unfolding highest
-  highest-fits t = best-fits (cond (g .nu) above atLeast) (inf true) (λ k. sought (g .nu) t (positiveIn y k)) (o .down) (inf-fits binary64 true) (g .n) (λ k K. M .downs k K .fit)
+  highest-fits t = best-fits (cond (g .nu) above atLeast) (inf true) (λ k. sought (g .nu) t (positiveIn y k)) (o .down) (inf-fits binary64 true) (g .n) downs
 
   module _ (j : ℕ) (J : j < g .n) (h : lt Weight.zero (rising g m y o j) ≡ true) where
     abbrev t : Bool
@@ -153,7 +153,7 @@ module _ (g : Given) (m u y : List ℕ) (top : Bool → Float) (term : ℕ → F
     within-width =
         let v = lowest g m y o t .value in
         let r = wide-real (o .down j) (highest g m y o t .value) v h below-highest in
-        sub-mono binary64 (o .down j) v (highest g m y o t .value) v (record { fit = M .downs j J .fit; real = down-real }) (record { fit = lowest-fits t; real = low-real })
+        sub-mono binary64 (o .down j) v (highest g m y o t .value) v (record { fit = downs j J; real = down-real }) (record { fit = lowest-fits t; real = low-real })
         (record { fit = highest-fits t; real = le-real (o .down j) (highest g m y o t .value) below-highest .1 }) (record { fit = lowest-fits t; real = low-real })
         gap-real r below-highest (le-refl v low-real)
 

@@ -1,49 +1,28 @@
-// The pair choice of a training without an order table, by plain loops over the copies.
+// The pair choice of a training without an order table: the least by lanes, and the second behind a bar.
 // The parameters f and y are the lent floats and labels: orderless/specs/Sheet.antt.
-ghost use mathlib.Core.Bool.{true, false, cond};
+ghost use mathlib.Core.Bool.{true, false, not, cond};
 ghost use mathlib.Core.Path.{_≡_};
-ghost use Prim.Native.Nat.{_+_, _*_, _≤_, _<_};
-ghost use lib.Dec.{eqb};
+ghost use Prim.Native.Nat.{_+_, _-_, _*_, _≤_, _<_};
 ghost use lib.Ieee.{binary64, inf, nan, sub, lt};
 ghost use lib.ListN.{length, getD};
+ghost use Rattle.alpha.specs.Weight as Weight;
 ghost use Rattle.extreme.specs.Best.{atLeast, above, atMost, best};
 ghost use Rattle.extreme.specs.Racing.{below, foundIn, raceOf};
 ghost use Rattle.floats.specs.Helpers.{maxOf};
 ghost use Rattle.orderless.specs.Choice as Sheets;
 ghost use Rattle.orderless.specs.Sheet.{readIn, sought};
 ghost use Rattle.partner.specs.Second.{placeOf, paired as pairedOf};
-ghost use Rattle.picks.specs.Follow.{deepest, firstOf, racedBy};
-ghost use Rattle.sheet.specs.Ready.{SheetReady, Diagonal};
+ghost use Rattle.kernel.specs.Matrix.{Matrix};
+ghost use Rattle.picks.specs.Follow.{deepest, firstOf, byLabel, racedBy, racedFrom, barOf, reachesOf, stirredTo};
+ghost use Rattle.sheet.specs.Ready.{SheetReady, Diagonal, Fitting};
 use extreme::Choice;
 use extreme::Race;
 use solver::Given;
-
-fn less(nu: bool, b: f64, v: f64) -> bool
-    ensures { λ r. ⌜ r ≡ cond nu below atMost b v ⌝ }
-{
-    if nu { v < b } else { v <= b }
-}
 
 fn more(nu: bool, b: f64, v: f64) -> bool
     ensures { λ r. ⌜ r ≡ cond nu above atLeast b v ⌝ }
 {
     if nu { v > b } else { v >= b }
-}
-
-// The least of the n places from o on: the first of equals with the nu rule, the last without.
-fn lowest(f: &[f64], o: usize, n: usize, nu: bool) -> Race
-    requires { ⌜ (n ≤ 512) × (o ≤ 2048) × (o + n ≤ length (now f)) ⌝ }
-    ensures { λ r. ⌜ r ≡ raceOf n (best (cond nu below atMost) (inf false) (λ k. true) (λ k. getD (now (f .entry)) (o + k) nan) n) ⌝ }
-{
-    let mut r = Race {
-        value: 1.0 / 0.0,
-        at: n,
-    };
-    for k in 0..n {
-        let v = f[o + k];
-        r = extreme::taken(r, less(nu, r.value, v), k, v);
-    }
-    r
 }
 
 // Whether a sample of label pos is sought where label t is asked.
@@ -122,13 +101,12 @@ fn own(pos: bool, p: First, q: First) -> First
     if pos { p } else { q }
 }
 
-// Sample j raced after the first of its label.
-fn raced(f: &[f64], y: &[u8], m: &[u8], g: Given, p: First, q: First, j: usize, r: Race) -> Race
-    requires { ⌜ (SheetReady g (now m) (now y) (now f)) × (Diagonal g (now m) (now f)) × (j < g .n) × (p .at < g .n) × (q .at < g .n) ⌝ }
-    ensures { λ z. ⌜ z ≡ racedBy g (now (m .entry)) (cond (eqb (getD (now (y .entry)) j 0) 1) p q) (getD (now (f .entry)) (3 * g .n + j) nan) j r ⌝ }
+// Sample j raced after the first l.
+fn raced(f: &[f64], m: &[u8], g: Given, l: First, j: usize, r: Race) -> Race
+    requires { ⌜ (Matrix (g .side) (now m)) × (g .side ≡ g .n) × (5 * g .n ≤ length (now f)) × (Diagonal g (now m) (now f)) × (j < g .n) × (l .at < g .n) ⌝ }
+    ensures { λ z. ⌜ z ≡ racedBy g (now (m .entry)) l (getD (now (f .entry)) (3 * g .n + j) nan) j r ⌝ }
 {
     let n = g.n;
-    let l = own(y[j] == 1, p, q);
     let d = f[3 * n + j] - l.value;
     if d > 0.0 {
         let e = kernel::entry(m, g.side, l.at, j);
@@ -140,6 +118,128 @@ fn raced(f: &[f64], y: &[u8], m: &[u8], g: Given, p: First, q: First, j: usize, 
     } else {
         r
     }
+}
+
+// The samples from t up to e, each raced after the first of its label.
+fn raced_to(
+    f: &[f64],
+    y: &[u8],
+    m: &[u8],
+    g: Given,
+    p: First,
+    q: First,
+    t: usize,
+    e: usize,
+    was: Race,
+) -> Race
+    requires { ⌜ (SheetReady g (now m) (now y) (now f)) × (Diagonal g (now m) (now f)) × (t ≤ e) × (e ≤ g .n) × (p .at < g .n) × (q .at < g .n) ⌝ }
+    ensures { λ z. ⌜ z ≡ racedFrom g (now (m .entry)) (now (f .entry)) (byLabel (now (y .entry)) p q) was t (e - t) ⌝ }
+{
+    let mut r = was;
+    for j in t..e {
+        r = raced(f, m, g, own(y[j] == 1, p, q), j, r);
+    }
+    r
+}
+
+// Eight of them after one first.
+fn raced_eight(f: &[f64], m: &[u8], g: Given, l: First, t: usize, was: Race) -> Race
+    requires { ⌜ (Matrix (g .side) (now m)) × (g .side ≡ g .n) × (5 * g .n ≤ length (now f)) × (Diagonal g (now m) (now f)) × (t + 8 ≤ g .n) × (l .at < g .n) ⌝ }
+    ensures { λ z. ⌜ z ≡ racedFrom g (now (m .entry)) (now (f .entry)) (λ j. l) was t 8 ⌝ }
+{
+    let mut r = was;
+    for k in 0..8 {
+        r = raced(f, m, g, l, t + k, r);
+    }
+    r
+}
+
+// Below what the second so far gains, or 0: who stays below the bar isn't taken.
+fn bar_of(gain: f64) -> f64
+    ensures { λ r. ⌜ r ≡ barOf gain ⌝ }
+{
+    let x = gain * -0.999_999_999;
+    if (x > 0.0) & (x < -gain) { x } else { 0.0 }
+}
+
+// Whether a sample may reach the bar: its copy is x, its diagonal b, and e its entry with the first, of value v and diagonal a.
+fn reaches(x: f64, v: f64, a: f64, b: f64, e: f64, bar: f64) -> bool
+    ensures { λ r. ⌜ r ≡ reachesOf x v a b e bar ⌝ }
+{
+    let d = x - v;
+    let q = kernel::quad_coef(true, a, b, e);
+    (d > 0.0) & !(q * bar > d * d)
+}
+
+// Whether one of eight may, after the first l. The compiler packs these.
+fn stirs(f: &[f64], m: &[u8], g: Given, l: First, t: usize, bar: f64) -> bool
+    requires { ⌜ (Matrix (g .side) (now m)) × (g .side ≡ g .n) × (5 * g .n ≤ length (now f)) × (Diagonal g (now m) (now f)) × (t + 8 ≤ g .n) × (l .at < g .n) ⌝ }
+    ensures { λ r. ⌜ r ≡ stirredTo g (now (m .entry)) (now (f .entry)) (λ j. l) bar t 8 ⌝ }
+{
+    let n = g.n;
+    let mut any = false;
+    for k in 0..8 {
+        let j = t + k;
+        let e = kernel::entry(m, g.side, l.at, j);
+        any = any | reaches(f[3 * n + j], l.value, l.diagonal, f[2 * n + j], e, bar);
+    }
+    any
+}
+
+fn either(pos: bool, a: bool, b: bool) -> bool
+    ensures { λ r. ⌜ r ≡ cond pos a b ⌝ }
+{
+    if pos { a } else { b }
+}
+
+// .. each after the first of its label: both are asked, and the label says which counts.
+fn stirs_by_label(
+    f: &[f64],
+    y: &[u8],
+    m: &[u8],
+    g: Given,
+    p: First,
+    q: First,
+    t: usize,
+    bar: f64,
+) -> bool
+    requires { ⌜ (SheetReady g (now m) (now y) (now f)) × (Diagonal g (now m) (now f)) × (t + 8 ≤ g .n) × (p .at < g .n) × (q .at < g .n) ⌝ }
+    ensures { λ r. ⌜ r ≡ stirredTo g (now (m .entry)) (now (f .entry)) (byLabel (now (y .entry)) p q) bar t 8 ⌝ }
+{
+    let n = g.n;
+    let mut any = false;
+    for k in 0..8 {
+        let j = t + k;
+        let x = f[3 * n + j];
+        let b = f[2 * n + j];
+        let e = kernel::entry(m, g.side, p.at, j);
+        let c = kernel::entry(m, g.side, q.at, j);
+        let u = reaches(x, p.value, p.diagonal, b, e, bar);
+        let w = reaches(x, q.value, q.diagonal, b, c, bar);
+        any = any | either(y[j] == 1, u, w);
+    }
+    any
+}
+
+// By the rule that holds: without the nu rule both labels have the first p.
+fn stirred(f: &[f64], y: &[u8], m: &[u8], g: Given, p: First, q: First, t: usize, bar: f64) -> bool
+    requires { ⌜ (SheetReady g (now m) (now y) (now f)) × (Diagonal g (now m) (now f)) × (t + 8 ≤ g .n) × (p .at < g .n) × (q .at < g .n) × (g .nu ≡ false → p ≡ q) ⌝ }
+    ensures { λ r. ⌜ r ≡ stirredTo g (now (m .entry)) (now (f .entry)) (byLabel (now (y .entry)) p q) bar t 8 ⌝ }
+{
+    if g.nu {
+        return stirs_by_label(f, y, m, g, p, q, t, bar);
+    }
+    stirs(f, m, g, p, t, bar)
+}
+
+fn eight(f: &[f64], y: &[u8], m: &[u8], g: Given, p: First, q: First, t: usize, r: Race) -> Race
+    requires { ⌜ (SheetReady g (now m) (now y) (now f)) × (Diagonal g (now m) (now f)) × (t + 8 ≤ g .n) × (p .at < g .n) × (q .at < g .n) × (g .nu ≡ false → p ≡ q) ⌝ }
+    ensures { λ z. ⌜ z ≡ racedFrom g (now (m .entry)) (now (f .entry)) (byLabel (now (y .entry)) p q) r t 8 ⌝ }
+{
+    if g.nu {
+        return raced_to(f, y, m, g, p, q, t, t + 8, r);
+    }
+    raced_eight(f, m, g, p, t, r)
 }
 
 // The second, as a place: n stands for nobody. p and q are the firsts of the two labels.
@@ -154,10 +254,16 @@ fn partner(f: &[f64], y: &[u8], m: &[u8], g: Given, p: First, q: First) -> usize
         value: 1.0 / 0.0,
         at: n,
     };
-    for j in 0..n {
-        r = raced(f, y, m, g, p, q, j, r);
+    let mut bar = bar_of(r.value);
+    let mut t: usize = 0;
+    while t + 8 <= n {
+        if stirred(f, y, m, g, p, q, t, bar) {
+            r = eight(f, y, m, g, p, q, t, r);
+            bar = bar_of(r.value);
+        }
+        t += 8;
     }
-    r.at
+    raced_to(f, y, m, g, p, q, t, n, r).at
 }
 
 // The pair of i and j, where i is a sample.
@@ -177,26 +283,40 @@ fn other(f: &[f64], n: usize, nu: bool, p: Race) -> Race
     ensures { λ r. ⌜ r ≡ raceOf n (best (cond nu below atMost) (inf false) (λ k. true) (readIn nu n (now (f .entry)) .up false) n) ⌝ }
 {
     if nu {
-        return lowest(f, 4 * n, n, nu);
+        return lanes::lowest(f, 4 * n, n, nu);
     }
     p
 }
 
+// Whether the rule goes on, where j is the second: a gap that reaches eps says so by itself. p and q are the least of the two labels.
+fn goes(f: &[f64], y: &[u8], m: &[u8], g: Given, p: f64, q: f64, j: usize) -> bool
+    requires { ⌜ (SheetReady g (now m) (now y) (now f)) × (Fitting g (now f)) × (j < g .n)
+        × (p ≡ Sheets.lowest g (now m) (now y) (readIn (g .nu) (g .n) (now f)) true .value)
+        × (q ≡ Sheets.lowest g (now m) (now y) (readIn (g .nu) (g .n) (now f)) false .value)
+        × (lt Weight.zero (Sheets.rising g (now m) (now y) (readIn (g .nu) (g .n) (now f)) j) ≡ true) ⌝ }
+    ensures { λ r. ⌜ r ≡ not (Sheets.stops g (now (m .entry)) (now (y .entry)) (readIn (g .nu) (g .n) (now (f .entry)))) ⌝ }
+{
+    let n = g.n;
+    let v = extreme::value_of(y[j] == 1, p, q);
+    if f[3 * n + j] - v >= g.eps {
+        return true;
+    }
+    !stop(f, y, n, g.nu, g.eps, p, q)
+}
+
 // The pair to work on, or that there is none.
 pub fn choice(f: &[f64], y: &[u8], m: &[u8], g: Given) -> Choice
-    requires { ⌜ (SheetReady g (now m) (now y) (now f)) × (Diagonal g (now m) (now f)) × (1 ≤ g .n) ⌝ }
+    requires { ⌜ (SheetReady g (now m) (now y) (now f)) × (Diagonal g (now m) (now f)) × (Fitting g (now f)) × (1 ≤ g .n) ⌝ }
     ensures { λ c. ⌜ c ≡ Sheets.choiceIn g (now (m .entry)) (now (y .entry)) (readIn (g .nu) (g .n) (now (f .entry))) ⌝ }
 {
     let n = g.n;
-    let nu = g.nu;
-    let p = lowest(f, 0, n, nu);
-    let q = other(f, n, nu, p);
-    if stop(f, y, n, nu, g.eps, p.value, q.value) {
-        return Choice::Optimal;
-    }
+    let p = lanes::lowest(f, 0, n, g.nu);
+    let q = other(f, n, g.nu, p);
     let j = partner(f, y, m, g, first_of(f, n, p), first_of(f, n, q));
     if j < n {
-        return paired(n, extreme::place_of(y[j] == 1, p.at, q.at), j);
+        if goes(f, y, m, g, p.value, q.value, j) {
+            return paired(n, extreme::place_of(y[j] == 1, p.at, q.at), j);
+        }
     }
     Choice::Optimal
 }

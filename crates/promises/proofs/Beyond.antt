@@ -33,7 +33,7 @@ module _ {A : Type 0} (x : A) (k : ℕ) where
   pub beyond-trans : {s t u : List A} → Beyond x k s t → Beyond x k t u → Beyond x k s u
   beyond-trans a b = record { long = b .long ∙ a .long; at = λ j h. b .at j h ∙ a .at j h }
 
-  filled-beyond : (y : A) (t : List A) → Beyond x k t (filledTo y t k)
+  pub filled-beyond : (y : A) (t : List A) → Beyond x k t (filledTo y t k)
   filled-beyond y t = record { long = length-filled x y t k; at = filled-later x y t k }
 
 -- the three lists of the scratch

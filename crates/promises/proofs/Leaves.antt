@@ -114,7 +114,7 @@ crate-beyond n order w t = record { long = length-gathered order w t n; at = λ 
 home-beyond : (n : ℕ) (order : List ℕ) (w : ℕ → Float) (t : List Float) → NamesSamples n order → Beyond nan n t (homeReading n order w t)
 home-beyond n order w t v = record { long = length-scattered order w t n; at = λ j h. home-after nan order w t n j v h }
 
-finished-beyond : (how : Finish) (l : List ℕ) (r : Float) (t : List Float) (n : ℕ) → Beyond nan n t (finishedTo how l r t n)
+pub finished-beyond : (how : Finish) (l : List ℕ) (r : Float) (t : List Float) (n : ℕ) → Beyond nan n t (finishedTo how l r t n)
 unfolding finishedTo
 finished-beyond how l r t n =
     let v : ℕ → Float = λ k. coefficientOf how (getD l k 0) r (getD (finishedTo how l r t k) k nan) in

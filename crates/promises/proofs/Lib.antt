@@ -15,3 +15,4 @@ pub mod Leaves
 pub mod Doubles
 pub mod Iterations
 pub mod Trail
+pub mod Still

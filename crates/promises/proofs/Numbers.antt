@@ -35,6 +35,7 @@ use Rattle.classification.proofs.Plain.{plain-good}
 use Rattle.classification.proofs.Still.{trained-still}
 use Rattle.tuning.specs.declared.Tuning.{Tuning}
 use Rattle.promises.specs.Numbers.{Numbered, RetiredNumbered}
+use Rattle.promises.specs.Still.{cNumber, nuNumber, oneClassNumber}
 
 abbrev most : Bool → ℕ
 most shrinking = cond shrinking 11 10
@@ -84,10 +85,9 @@ floor-or x f k = go (f k) (eqb k 14) refl (floorGood x)
     go false true e true h = absurd (true≢false (sym h))
     go false false e c h = absurd (true≢false (sym h))
 
--- the numbers that may be given: 1 to 10 among them
-module _ (ok : ℕ → Bool) (ten : (k : ℕ) → listed false k ≡ true → ok k ≡ true) where
-  -- ---- what is judged
+-- ---- what is judged; ok are the numbers that may be given
 
+module _ (ok : ℕ → Bool) where
   module _ (k : ℕ) (h : ok k ≡ true) where
     one-test : (b : Bool) (x : Judged) (i : ℕ) → judgedSo ok x ≡ true → judgedSo ok (cond b x (Bad k i)) ≡ true
     unfolding judgedSo
@@ -107,36 +107,55 @@ module _ (ok : ℕ → Bool) (ten : (k : ℕ) → listed false k ≡ true → ok
   and-then-so Fine b g h = h
   and-then-so (Bad k i) b g h = g
 
-  samples-so : (n : ℕ) (m l : List ℕ) → judgedSo ok (samplesJudged n m l) ≡ true
-  samples-so n m l = and-then-so _ _ (first-so 3 (ten 3 refl) (entryGood m) (n * n) 0) (first-so 4 (ten 4 refl) (labelGood l) n 0)
+  samples-so : ok 3 ≡ true → ok 4 ≡ true → (n : ℕ) (m l : List ℕ) → judgedSo ok (samplesJudged n m l) ≡ true
+  samples-so three four n m l = and-then-so _ _ (first-so 3 three (entryGood m) (n * n) 0) (first-so 4 four (labelGood l) n 0)
 
+  c-so : ok 3 ≡ true → ok 4 ≡ true → ok 5 ≡ true → ok 8 ≡ true → ok 10 ≡ true → (n : ℕ) (m l : List ℕ) (cpos cneg eps : Float) (budget : ℕ)
+      → judgedSo ok (cJudged n m l cpos cneg eps budget) ≡ true
+  unfolding cJudged
+  c-so three four five eight ten n m l cpos cneg eps budget =
+      let j5 = and-then-so _ _ (samples-so three four n m l) (first-so 5 five (costGood cpos cneg) 2 0) in
+      and-then-so _ _ (and-then-so _ _ j5 (need-so 8 eight (epsGood eps))) (need-so 10 ten (budgetGood budget))
+
+  nu-so : ok 3 ≡ true → ok 4 ≡ true → ok 8 ≡ true → ok 9 ≡ true → ok 10 ≡ true → (n : ℕ) (m l : List ℕ) (nu eps : Float) (budget : ℕ)
+      → judgedSo ok (nuJudged n m l nu eps budget) ≡ true
+  unfolding nuJudged
+  nu-so three four eight nine ten n m l nu eps budget =
+      let j8 = and-then-so _ _ (samples-so three four n m l) (need-so 8 eight (epsGood eps)) in
+      and-then-so _ _ (and-then-so _ _ j8 (need-so 9 nine (nuGood nu))) (need-so 10 ten (budgetGood budget))
+
+  one-class-so : ok 3 ≡ true → ok 8 ≡ true → ok 9 ≡ true → ok 10 ≡ true → (n : ℕ) (m : List ℕ) (nu eps : Float) (budget : ℕ)
+      → judgedSo ok (oneClassJudged n m nu eps budget) ≡ true
+  unfolding oneClassJudged
+  one-class-so three eight nine ten n m nu eps budget =
+      let j8 = and-then-so _ _ (first-so 3 three (entryGood m) (n * n) 0) (need-so 8 eight (epsGood eps)) in
+      and-then-so _ _ (and-then-so _ _ j8 (need-so 9 nine (nuGood nu))) (need-so 10 ten (budgetGood budget))
+
+  judged-so : (j : Judged) → judgedSo ok j ≡ true → (number index : ℕ) → j ≡ Bad number index → ok number ≡ true
+  unfolding judgedSo
+  judged-so j h k i e = rw e at h
+
+-- what C, nu and one-class judge has these numbers and no other
+pub c-judged-number : (n : ℕ) (m l : List ℕ) (cpos cneg eps : Float) (budget number index : ℕ) → cJudged n m l cpos cneg eps budget ≡ Bad number index → cNumber number ≡ true
+c-judged-number n m l cpos cneg eps budget = judged-so cNumber _ (c-so cNumber refl refl refl refl refl n m l cpos cneg eps budget)
+
+pub nu-judged-number : (n : ℕ) (m l : List ℕ) (nu eps : Float) (budget number index : ℕ) → nuJudged n m l nu eps budget ≡ Bad number index → nuNumber number ≡ true
+nu-judged-number n m l nu eps budget = judged-so nuNumber _ (nu-so nuNumber refl refl refl refl refl n m l nu eps budget)
+
+pub one-class-judged-number : (n : ℕ) (m : List ℕ) (nu eps : Float) (budget number index : ℕ) → oneClassJudged n m nu eps budget ≡ Bad number index → oneClassNumber number ≡ true
+one-class-judged-number n m nu eps budget = judged-so oneClassNumber _ (one-class-so oneClassNumber refl refl refl refl n m nu eps budget)
+
+-- 1 to 10 among them
+module _ (ok : ℕ → Bool) (ten : (k : ℕ) → listed false k ≡ true → ok k ≡ true) where
   general-so : (n : ℕ) (m l : List ℕ) (c a p : List Float) (eps : Float) (budget : ℕ) → judgedSo ok (generalJudged n m l c a p eps budget) ≡ true
   unfolding generalJudged
   general-so n m l c a p eps budget =
-      let j5 = and-then-so _ _ (samples-so n m l) (first-so 5 (ten 5 refl) (ceilingGood c) n 0) in
-      let j7 = and-then-so _ _ (and-then-so _ _ j5 (first-so 6 (ten 6 refl) (alphaGood a c) n 0)) (first-so 7 (ten 7 refl) (linearGood p) n 0) in
-      and-then-so _ _ (and-then-so _ _ j7 (need-so 8 (ten 8 refl) (epsGood eps))) (need-so 10 (ten 10 refl) (budgetGood budget))
-
-  c-so : (n : ℕ) (m l : List ℕ) (cpos cneg eps : Float) (budget : ℕ) → judgedSo ok (cJudged n m l cpos cneg eps budget) ≡ true
-  unfolding cJudged
-  c-so n m l cpos cneg eps budget =
-      let j5 = and-then-so _ _ (samples-so n m l) (first-so 5 (ten 5 refl) (costGood cpos cneg) 2 0) in
-      and-then-so _ _ (and-then-so _ _ j5 (need-so 8 (ten 8 refl) (epsGood eps))) (need-so 10 (ten 10 refl) (budgetGood budget))
-
-  nu-so : (n : ℕ) (m l : List ℕ) (nu eps : Float) (budget : ℕ) → judgedSo ok (nuJudged n m l nu eps budget) ≡ true
-  unfolding nuJudged
-  nu-so n m l nu eps budget =
-      let j8 = and-then-so _ _ (samples-so n m l) (need-so 8 (ten 8 refl) (epsGood eps)) in
-      and-then-so _ _ (and-then-so _ _ j8 (need-so 9 (ten 9 refl) (nuGood nu))) (need-so 10 (ten 10 refl) (budgetGood budget))
-
-  one-class-so : (n : ℕ) (m : List ℕ) (nu eps : Float) (budget : ℕ) → judgedSo ok (oneClassJudged n m nu eps budget) ≡ true
-  unfolding oneClassJudged
-  one-class-so n m nu eps budget =
-      let j8 = and-then-so _ _ (first-so 3 (ten 3 refl) (entryGood m) (n * n) 0) (need-so 8 (ten 8 refl) (epsGood eps)) in
-      and-then-so _ _ (and-then-so _ _ j8 (need-so 9 (ten 9 refl) (nuGood nu))) (need-so 10 (ten 10 refl) (budgetGood budget))
+      let j5 = and-then-so ok _ _ (samples-so ok (ten 3 refl) (ten 4 refl) n m l) (first-so ok 5 (ten 5 refl) (ceilingGood c) n 0) in
+      let j7 = and-then-so ok _ _ (and-then-so ok _ _ j5 (first-so ok 6 (ten 6 refl) (alphaGood a c) n 0)) (first-so ok 7 (ten 7 refl) (linearGood p) n 0) in
+      and-then-so ok _ _ (and-then-so ok _ _ j7 (need-so ok 8 (ten 8 refl) (epsGood eps))) (need-so ok 10 (ten 10 refl) (budgetGood budget))
 
   floor-so : (x : Float) → (floorGood x ≡ false → ok 14 ≡ true) → (j : Judged) → judgedSo ok j ≡ true → judgedSo ok (floorJudged x j) ≡ true
-  floor-so x h j g = and-then-so j (need 14 (floorGood x)) g (go (floorGood x) refl)
+  floor-so x h j g = and-then-so ok j (need 14 (floorGood x)) g (go (floorGood x) refl)
     where
       go : (b : Bool) → floorGood x ≡ b → judgedSo ok (need 14 b) ≡ true
       go true e = unfold judgedSo in refl
@@ -260,7 +279,7 @@ module _ (tune : Tuning) (n : ℕ) (m l : List ℕ) (c a p : List Float) (r : Li
   unfolding retiredJudged orFloor
   retired-so =
       let j14 = floor-so (retiredAllowed (tune .floor)) (ten-retired (tune .floor)) (tune .floor) (fourteen (tune .floor) retiredNumber) _ (general-so (retiredAllowed (tune .floor)) (ten-retired (tune .floor)) n m l c a p eps budget) in
-      and-then-so (retiredAllowed (tune .floor)) (ten-retired (tune .floor)) _ _ (and-then-so (retiredAllowed (tune .floor)) (ten-retired (tune .floor)) _ _ j14 (need-so (retiredAllowed (tune .floor)) (ten-retired (tune .floor)) 12 refl (bytesGood r n))) (need-so (retiredAllowed (tune .floor)) (ten-retired (tune .floor)) 13 refl (not shrinking))
+      and-then-so (retiredAllowed (tune .floor)) _ _ (and-then-so (retiredAllowed (tune .floor)) _ _ j14 (need-so (retiredAllowed (tune .floor)) 12 refl (bytesGood r n))) (need-so (retiredAllowed (tune .floor)) 13 refl (not shrinking))
 
   retired-fit-so : numbered (retiredAllowed (tune .floor)) (fittedOver (standsIn r) (givenBy tune n TwoClass eps false nurule) m l c (kept r a n) (kept r p n) budget d .out) ≡ true
   unfolding fittedOver answeredOver numbered
@@ -297,7 +316,7 @@ module _ (tune : Tuning) (n : ℕ) (m l : List ℕ) (c a p : List Float) (r : Li
 module _ (tune : Tuning) (n : ℕ) (m l : List ℕ) (cpos cneg eps : Float) (shrinking : Bool) (budget : ℕ) (d : Lent) where
   c-sized-so : numbered (allowed (tune .floor) shrinking) (fitCTunedSized tune n m l cpos cneg eps shrinking budget d .out) ≡ true
   unfolding fitCTunedSized
-  c-sized-so = decided-so (allowed (tune .floor) shrinking) (ten-allowed (tune .floor) shrinking) _ (fitted (givenBy tune n TwoClass eps shrinking false) Signed m l (costsTo cpos cneg l nothing n) nothing (evenly minusOne n) budget d) d (floor-so (allowed (tune .floor) shrinking) (ten-allowed (tune .floor) shrinking) (tune .floor) (fourteen (tune .floor) (listed shrinking)) _ (c-so (allowed (tune .floor) shrinking) (ten-allowed (tune .floor) shrinking) n m l cpos cneg eps budget)) (fitted-so (tune .floor) (givenBy tune n TwoClass eps shrinking false) Signed m l (costsTo cpos cneg l nothing n) nothing (evenly minusOne n) budget d)
+  c-sized-so = decided-so (allowed (tune .floor) shrinking) (ten-allowed (tune .floor) shrinking) _ (fitted (givenBy tune n TwoClass eps shrinking false) Signed m l (costsTo cpos cneg l nothing n) nothing (evenly minusOne n) budget d) d (floor-so (allowed (tune .floor) shrinking) (ten-allowed (tune .floor) shrinking) (tune .floor) (fourteen (tune .floor) (listed shrinking)) _ (c-so (allowed (tune .floor) shrinking) (ten-allowed (tune .floor) shrinking 3 refl) (ten-allowed (tune .floor) shrinking 4 refl) (ten-allowed (tune .floor) shrinking 5 refl) (ten-allowed (tune .floor) shrinking 8 refl) (ten-allowed (tune .floor) shrinking 10 refl) n m l cpos cneg eps budget)) (fitted-so (tune .floor) (givenBy tune n TwoClass eps shrinking false) Signed m l (costsTo cpos cneg l nothing n) nothing (evenly minusOne n) budget d)
 
   c-entry-so : numbered (allowed (tune .floor) shrinking) (fitCTuned tune n m l cpos cneg eps shrinking budget d .out) ≡ true
   unfolding fitCTuned
@@ -316,7 +335,7 @@ module _ (tune : Tuning) (n : ℕ) (m l : List ℕ) (cpos cneg eps : Float) (shr
 module _ (tune : Tuning) (n : ℕ) (m l : List ℕ) (nu eps : Float) (shrinking : Bool) (budget : ℕ) (d : Lent) where
   nu-sized-so : numbered (allowed (tune .floor) shrinking) (fitNuTunedSized tune n m l nu eps shrinking budget d .out) ≡ true
   unfolding fitNuTunedSized
-  nu-sized-so = decided-so (allowed (tune .floor) shrinking) (ten-allowed (tune .floor) shrinking) _ (fitted (givenBy tune n TwoClass eps shrinking true) Scaled m l (evenly one n) (sharedTo (half nu n) l nothing n) nothing budget d) d (floor-so (allowed (tune .floor) shrinking) (ten-allowed (tune .floor) shrinking) (tune .floor) (fourteen (tune .floor) (listed shrinking)) _ (nu-so (allowed (tune .floor) shrinking) (ten-allowed (tune .floor) shrinking) n m l nu eps budget)) (fitted-so (tune .floor) (givenBy tune n TwoClass eps shrinking true) Scaled m l (evenly one n) (sharedTo (half nu n) l nothing n) nothing budget d)
+  nu-sized-so = decided-so (allowed (tune .floor) shrinking) (ten-allowed (tune .floor) shrinking) _ (fitted (givenBy tune n TwoClass eps shrinking true) Scaled m l (evenly one n) (sharedTo (half nu n) l nothing n) nothing budget d) d (floor-so (allowed (tune .floor) shrinking) (ten-allowed (tune .floor) shrinking) (tune .floor) (fourteen (tune .floor) (listed shrinking)) _ (nu-so (allowed (tune .floor) shrinking) (ten-allowed (tune .floor) shrinking 3 refl) (ten-allowed (tune .floor) shrinking 4 refl) (ten-allowed (tune .floor) shrinking 8 refl) (ten-allowed (tune .floor) shrinking 9 refl) (ten-allowed (tune .floor) shrinking 10 refl) n m l nu eps budget)) (fitted-so (tune .floor) (givenBy tune n TwoClass eps shrinking true) Scaled m l (evenly one n) (sharedTo (half nu n) l nothing n) nothing budget d)
 
   nu-entry-so : numbered (allowed (tune .floor) shrinking) (fitNuTuned tune n m l nu eps shrinking budget d .out) ≡ true
   unfolding fitNuTuned
@@ -335,7 +354,7 @@ module _ (tune : Tuning) (n : ℕ) (m l : List ℕ) (nu eps : Float) (shrinking 
 module _ (tune : Tuning) (n : ℕ) (m : List ℕ) (nu eps : Float) (shrinking : Bool) (budget : ℕ) (d : Lent) where
   one-class-sized-so : numbered (allowed (tune .floor) shrinking) (fitOneClassTunedSized tune n m nu eps shrinking budget d .out) ≡ true
   unfolding fitOneClassTunedSized
-  one-class-sized-so = decided-so (allowed (tune .floor) shrinking) (ten-allowed (tune .floor) shrinking) _ (fitted (givenBy tune n OneClass eps shrinking false) Plain m (allPositive n) (evenly one n) (oneClassTo nu n nothing n) nothing budget d) d (floor-so (allowed (tune .floor) shrinking) (ten-allowed (tune .floor) shrinking) (tune .floor) (fourteen (tune .floor) (listed shrinking)) _ (one-class-so (allowed (tune .floor) shrinking) (ten-allowed (tune .floor) shrinking) n m nu eps budget)) (fitted-so (tune .floor) (givenBy tune n OneClass eps shrinking false) Plain m (allPositive n) (evenly one n) (oneClassTo nu n nothing n) nothing budget d)
+  one-class-sized-so = decided-so (allowed (tune .floor) shrinking) (ten-allowed (tune .floor) shrinking) _ (fitted (givenBy tune n OneClass eps shrinking false) Plain m (allPositive n) (evenly one n) (oneClassTo nu n nothing n) nothing budget d) d (floor-so (allowed (tune .floor) shrinking) (ten-allowed (tune .floor) shrinking) (tune .floor) (fourteen (tune .floor) (listed shrinking)) _ (one-class-so (allowed (tune .floor) shrinking) (ten-allowed (tune .floor) shrinking 3 refl) (ten-allowed (tune .floor) shrinking 8 refl) (ten-allowed (tune .floor) shrinking 9 refl) (ten-allowed (tune .floor) shrinking 10 refl) n m nu eps budget)) (fitted-so (tune .floor) (givenBy tune n OneClass eps shrinking false) Plain m (allPositive n) (evenly one n) (oneClassTo nu n nothing n) nothing budget d)
 
   one-class-entry-so : numbered (allowed (tune .floor) shrinking) (fitOneClassTuned tune n m nu eps shrinking budget d .out) ≡ true
   unfolding fitOneClassTuned

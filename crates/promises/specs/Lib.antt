@@ -4,3 +4,4 @@ pub mod Threshold
 pub mod Leaves
 pub mod Numbers
 pub mod Trail
+pub mod Still

@@ -7,7 +7,7 @@ use lib.Ieee.{Float}
 use Rattle.judge.specs.Judge.{floorGood}
 
 -- 14 only where the floor x isn't good
-abbrev FloorBad : Float → ℕ → Type 0
+abbrev pub FloorBad : Float → ℕ → Type 0
 FloorBad x k = (k ≡ 14) × (floorGood x ≡ false)
 
 -- 1 to 10, and 11 where shrinking is on

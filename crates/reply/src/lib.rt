@@ -2,7 +2,8 @@
 // The parameters f and l are the lent floats and labels, cpos and cneg the ceilings by label, p the linear term: orderless/specs/Sheet.antt.
 ghost use mathlib.Core.Path.{_≡_};
 ghost use Prim.Native.Nat.{_+_, _*_, _≤_, _<_};
-ghost use lib.Ieee.{nan};
+ghost use lib.Dec.{T};
+ghost use lib.Ieee.{binary64, fits, nan};
 ghost use lib.ListN.{length, getD, take};
 ghost use Rattle.answer.specs.Answer.{supportOf, rhoOf, objOf, ratioOf, reasonOf};
 ghost use Rattle.course.specs.Filled.{diagonalIn};
@@ -100,7 +101,7 @@ fn fit(
     cneg: f64,
     budget: usize,
 ) -> Outcome
-    requires { ⌜ (SheetReady g (now m) (now l) (now f)) × (1 ≤ g .n) × (budget ≤ 10000000) × (g .n ≤ length (now a)) × (g .n ≤ length (now h)) ⌝ }
+    requires { ⌜ (SheetReady g (now m) (now l) (now f)) × (1 ≤ g .n) × (budget ≤ 10000000) × (g .n ≤ length (now a)) × (g .n ≤ length (now h)) × (T (fits binary64 p)) ⌝ }
     ensures { λ o. ⌜ _≡_ {A = Reply} (record { out = o; result = now (h .exit) })
         (replyOf g how (now (m .entry)) (now (l .entry)) (ceilingsOf cpos cneg) (λ k. p) budget
         (orderless g (now (m .entry)) (now (l .entry)) (ceilingsOf cpos cneg) (λ k. p)
@@ -126,7 +127,7 @@ pub fn fit_cleared(
     cneg: f64,
     budget: u64,
 ) -> Outcome
-    requires { ⌜ (SheetReady g (now m) (now l) (now f)) × (1 ≤ g .n) × (budget ≤ 10000000) × (g .n ≤ length (now a)) × (g .n ≤ length (now h)) × (g .n ≤ length (now y)) ⌝ }
+    requires { ⌜ (SheetReady g (now m) (now l) (now f)) × (1 ≤ g .n) × (budget ≤ 10000000) × (g .n ≤ length (now a)) × (g .n ≤ length (now h)) × (g .n ≤ length (now y)) × (T (fits binary64 p)) ⌝ }
     ensures { λ o. ⌜ _≡_ {A = StillWhole} (stillWhole o (now (h .exit)) (now (f .exit)) (now (y .exit)))
         (stillLeft (g .n) (replyOf g how (now (m .entry)) (now (l .entry)) (ceilingsOf cpos cneg) (λ k. p) budget
         (orderless g (now (m .entry)) (now (l .entry)) (ceilingsOf cpos cneg) (λ k. p)

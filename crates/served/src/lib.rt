@@ -1,6 +1,6 @@
 // Each entry for a host that lends no scratch: after refusals 1 and 2, with working room of its own.
 ghost use mathlib.Core.Path.{_≡_};
-ghost use Prim.Native.Nat.{ℕ, _*_, _≤_};
+ghost use Prim.Native.Nat.{_*_, _≤_};
 ghost use lib.ListN.{length};
 ghost use Rattle.classification.specs.Entries.{generalTunedSized, fitCTunedSized, fitNuTunedSized, fitOneClassTunedSized};
 ghost use Rattle.hosted.specs.Hosted.{floatsOf, room, Handed, handed, delivered};
@@ -194,6 +194,7 @@ pub fn retired(
     )
 }
 
+// With shrinking off no sample moves, and the training needs no order table.
 pub fn c(
     n: usize,
     m: &[u8],
@@ -212,28 +213,10 @@ pub fn c(
     ensures { λ k. ⌜ _≡_ {A = Handed} (handed k (now (cr .exit)) (now (h .exit)) (now (answer .exit)))
         (delivered n (fitCTunedSized t n (now (m .entry)) (now (l .entry)) cpos cneg eps shrinking budget room) (now (cr .entry)) (now (h .entry)) (now (answer .entry))) ⌝ }
 {
-    let mut c2 = hosted::places();
-    let mut h2 = hosted::places();
-    let mut f = hosted::floats();
-    let mut u = hosted::numbers();
-    let mut y = hosted::bytes();
-    let o = fit_c::sized(
-        n,
-        m,
-        l,
-        cpos,
-        cneg,
-        eps,
-        shrinking,
-        budget,
-        t,
-        &mut c2,
-        &mut h2,
-        &mut f,
-        &mut u,
-        &mut y,
-    );
-    hosted::deliver(cr, h, answer, &c2, &h2, n, o)
+    if shrinking {
+        return served_ordered::c(n, m, l, cpos, cneg, eps, budget, t, cr, h, answer);
+    }
+    served_still::c(n, m, l, cpos, cneg, eps, budget, t, cr, h, answer)
 }
 
 pub fn nu(
@@ -253,27 +236,10 @@ pub fn nu(
     ensures { λ k. ⌜ _≡_ {A = Handed} (handed k (now (cr .exit)) (now (h .exit)) (now (answer .exit)))
         (delivered n (fitNuTunedSized t n (now (m .entry)) (now (l .entry)) nu eps shrinking budget room) (now (cr .entry)) (now (h .entry)) (now (answer .entry))) ⌝ }
 {
-    let mut c2 = hosted::places();
-    let mut h2 = hosted::places();
-    let mut f = hosted::floats();
-    let mut u = hosted::numbers();
-    let mut y = hosted::bytes();
-    let o = fit_nu::sized(
-        n,
-        m,
-        l,
-        nu,
-        eps,
-        shrinking,
-        budget,
-        t,
-        &mut c2,
-        &mut h2,
-        &mut f,
-        &mut u,
-        &mut y,
-    );
-    hosted::deliver(cr, h, answer, &c2, &h2, n, o)
+    if shrinking {
+        return served_ordered::nu(n, m, l, nu, eps, budget, t, cr, h, answer);
+    }
+    served_still::nu(n, m, l, nu, eps, budget, t, cr, h, answer)
 }
 
 pub fn one_class(
@@ -292,24 +258,8 @@ pub fn one_class(
     ensures { λ k. ⌜ _≡_ {A = Handed} (handed k (now (cr .exit)) (now (h .exit)) (now (answer .exit)))
         (delivered n (fitOneClassTunedSized t n (now (m .entry)) nu eps shrinking budget room) (now (cr .entry)) (now (h .entry)) (now (answer .entry))) ⌝ }
 {
-    let mut c2 = hosted::places();
-    let mut h2 = hosted::places();
-    let mut f = hosted::floats();
-    let mut u = hosted::numbers();
-    let mut y = hosted::bytes();
-    let o = fit_one_class::sized(
-        n,
-        m,
-        nu,
-        eps,
-        shrinking,
-        budget,
-        t,
-        &mut c2,
-        &mut h2,
-        &mut f,
-        &mut u,
-        &mut y,
-    );
-    hosted::deliver(cr, h, answer, &c2, &h2, n, o)
+    if shrinking {
+        return served_ordered::one_class(n, m, nu, eps, budget, t, cr, h, answer);
+    }
+    served_still::one_class(n, m, nu, eps, budget, t, cr, h, answer)
 }

@@ -13,3 +13,4 @@ pub record Same (n : ℕ) (d : Lent) (e : StillLent) (w : Whole) (v : StillWhole
   pub out : w .out ≡ v .out
   pub places : (x : Answer) → w .out ≡ Accepted x → (k : ℕ) → k < n → getD (w .left .home) k nan ≡ getD (v .left .result) k nan
   pub lists : d .home ≡ e .result → w .left .home ≡ v .left .result
+  pub crates : d .crate ≡ e .result → w .left .crate ≡ v .left .result

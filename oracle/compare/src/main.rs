@@ -9,6 +9,7 @@ mod pair;
 mod reached;
 mod recorded;
 mod retired;
+mod still;
 mod trial;
 mod tuned;
 mod zeros;
@@ -32,9 +33,13 @@ compare pair FIRST LAST
 compare tuned FIRST LAST
     the five C functions that take a tuning, on problems with floors of their own, likewise; and each call again at the usual floor: by
     the functions without a tuning, with an empty one and with 1e-10 the same bytes must be written
+compare still FIRST LAST
+    the C functions of C, nu and one-class with shrinking off, with floors and without, likewise; and each accepted call again by the first
+    trainer, through the general function and by position: all bytes of the answer and both readings must be the same
 compare recorded FILE
     the proved run by itself, on the recorded general problems: order and weights by position, rho, r, obj, iterations, reason,
-    refusal 11, and after each pass that is recorded the weights of its pair; and the C function on those with retired samples
+    refusal 11, and after each pass that is recorded the weights of its pair; and the C functions on those with retired samples, and on
+    those of C, nu and one-class with shrinking off
 compare captions FILE..
     the C functions on real captions: the first 64, 128, 256 and 512 of each file of captions/make.py, shrinking off and on
 Everything is compared bit for bit with the Rust whose max and min keep the first of two zeros of different sign. Runs that met such
@@ -54,6 +59,9 @@ fn main() -> ExitCode {
         }
         ["tuned", first, last] => {
             both(first, last).map(|(first, last)| tuned::compare(first, last))
+        }
+        ["still", first, last] => {
+            both(first, last).map(|(first, last)| still::compare(first, last))
         }
         ["pair", first, last] => both(first, last).map(|(first, last)| pair::compare(first, last)),
         ["recorded", file] => recorded::compare(file),

@@ -66,8 +66,8 @@ impl Reached {
             (self.passes, "passes in all"),
             (self.ran_out, "ran out of budget"),
         ];
-        // with retired samples shrinking is off
-        if entries != [Entry::Retired] {
+        // with retired samples shrinking is off, and in a comparison without order tables
+        if entries != [Entry::Retired] && entries != Entry::STILL {
             rest.extend([
                 (self.shrank, "shrank"),
                 (self.moved, "moved"),

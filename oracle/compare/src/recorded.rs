@@ -1,4 +1,5 @@
-//! The recorded answers through the proved run, by position and pass for pass; those with retired samples through the C function.
+//! The recorded answers through the proved run, by position and pass for pass; those with retired samples, and those of C, nu and
+//! one-class with shrinking off, through their C functions.
 use crate::call::{Call, Spoiled};
 use crate::trial::{run, Ran};
 use crate::zeros::Zeros;
@@ -18,6 +19,7 @@ struct Counts {
     zeros: Zeros,
     passes: u64,
     retired: u64,
+    still: u64,
     called: u64,
     differ: u64,
 }
@@ -35,7 +37,8 @@ impl Counts {
         println!("sign of rho by Rust's own        {}", self.zeros.own);
         println!("passes compared one by one       {}", self.passes);
         println!("with retired samples             {}", self.retired);
-        println!("of them called                   {}", self.called);
+        println!("shrinking off, no order table    {}", self.still);
+        println!("of both called                   {}", self.called);
         println!("differ                           {}", self.differ);
     }
 }
@@ -100,10 +103,8 @@ fn written(told: &Told) -> Vec<u64> {
     all
 }
 
-/// Calls the C function on a record with retired samples. It brings scratch of its own, so a record that lends too little is
-/// passed over.
+/// Calls the C function on a record. It brings scratch of its own, so a record that lends too little is passed over.
 fn call(k: usize, p: &Problem, told: &Told, c: &mut Counts) {
-    c.retired += 1;
     let short =
         || p.scratch_floats < 7 * p.n || p.scratch_numbers < 2 * p.n || p.scratch_bytes < p.n;
     if told.refusal == 2 && short() {
@@ -118,11 +119,12 @@ fn call(k: usize, p: &Problem, told: &Told, c: &mut Counts) {
     let differs = differs.or(parted.then_some("the record"));
     if let Some(what) = differs.or(zeros.as_deref()) {
         c.differ += 1;
-        println!("record {k}, retired: {what}");
+        println!("record {k}, {}: {what}", p.entry.name());
     }
 }
 
-/// Plays each general record that isn't refused with 1 to 10, calls those with retired samples, and says how many differ.
+/// Plays each general record that isn't refused with 1 to 10, calls those with retired samples and those that need no order table, and
+/// says how many differ.
 pub fn compare(path: &str) -> Option<u64> {
     let bytes = std::fs::read(path).ok()?;
     let records = read(&bytes).ok()?;
@@ -130,7 +132,11 @@ pub fn compare(path: &str) -> Option<u64> {
     for (k, r) in records.iter().enumerate() {
         c.records += 1;
         let (p, told) = (&r.problem, &r.told);
-        if p.entry == Entry::Retired {
+        let retired = p.entry == Entry::Retired;
+        let still = Entry::STILL.contains(&p.entry) && !p.shrinking;
+        c.retired += u64::from(retired);
+        c.still += u64::from(still);
+        if retired || still {
             call(k, p, told, &mut c);
         }
         if p.entry != Entry::General || (told.refusal != 0 && told.refusal != 11) {

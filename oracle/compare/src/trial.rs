@@ -82,7 +82,7 @@ fn same(a: &[f64], b: &[f64]) -> bool {
 }
 
 /// Where the two part, in a word; nothing where they agree.
-fn differs(p: &Problem, answer: &Answer, ran: &Ran) -> Option<&'static str> {
+pub fn differs(p: &Problem, answer: &Answer, ran: &Ran) -> Option<&'static str> {
     let n = p.n as usize;
     let a = match &answer.outcome {
         Outcome::Accepted(a) => a,

@@ -66,7 +66,7 @@ pub fn draw_big_tuned(seed: u64, n: usize, entry: Entry, shrinking: bool) -> Pro
     p
 }
 
-fn floor(g: &mut Random) -> f64 {
+pub(super) fn floor(g: &mut Random) -> f64 {
     match g.below(16) {
         0..=9 => {
             let edge = g.pick(&FLOORS);
@@ -79,7 +79,7 @@ fn floor(g: &mut Random) -> f64 {
 }
 
 /// The floor, or 1 where it is refused.
-fn sound(floor: f64) -> f64 {
+pub(super) fn sound(floor: f64) -> f64 {
     if floor > 0.0 && floor <= 1.0 {
         floor
     } else {
@@ -125,7 +125,7 @@ fn bent(g: &mut Random) -> Problem {
 }
 
 /// Scales the kernel so that its curvatures are about as large as the floor.
-fn approach(g: &mut Random, p: &mut Problem, floor: f64) {
+pub(super) fn approach(g: &mut Random, p: &mut Problem, floor: f64) {
     scale_kernel(p, floor * power(g.from_to(-6, 2)));
 }
 

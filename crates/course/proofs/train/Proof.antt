@@ -3,7 +3,7 @@ use denote.Ref.{now}
 use Rattle.orderless.specs.Run.{orderless}
 use Rattle.orderless.specs.Sheet.{ceilingsOf}
 use Rattle.course.specs.Filled.{diagonalIn}
-use Rattle.course.proofs.Laws.{ready-long, length-diagonal, diagonal-filled, diagonal-started, started-is}
+use Rattle.course.proofs.Laws.{ready-long, length-diagonal, diagonal-filled, diagonal-started, fitting-started, started-is}
 use borrow.Author.Needs.{needs}
 use Rattle.course.proofs.train.Statement.{statement}
 use Rattle.course.proofs.train.Tie as tie
@@ -19,6 +19,7 @@ go-on-requires c κs =
     let e = started-is (a .g) m y top (a .p) (now (a .f)) _ _ _ _ (c .before .before .before .before .before .before .before .before .before .before .before .before .before .before .before .diagonals .ensures) (c .before .before .before .before .before .before .before .before .before .before .before .begin .ensures) (c .before .before .before .before .before .before .before .gather .ensures) (c .before .before .before .«open» .ensures) in (
       ready-long (P .0) (c .before .before .before .«open» .kept .0 ∙ c .before .before .before .before .before .before .before .gather .kept .0 ∙ c .before .before .before .before .before .before .before .before .before .before .before .begin .kept .0 ∙ c .before .before .before .before .before .before .before .before .before .before .before .before .before .before .before .diagonals .kept .0),
       rw e (diagonal-started (a .g) m y top (λ k. a .p) d (rw (length-diagonal (a .g) m (now (a .f)) (a .g .n)) (P .0 .floats)) (diagonal-filled (a .g) m (now (a .f)) (P .0 .floats))),
+      rw e (fitting-started (a .g) m y top (a .p) d (rw (length-diagonal (a .g) m (now (a .f)) (a .g .n)) (P .0 .floats)) (P .3)),
       P .1,
       P .2,
     )

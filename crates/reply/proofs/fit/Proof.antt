@@ -5,7 +5,7 @@ use Rattle.reply.proofs.fit.Statement.{statement}
 use Rattle.reply.proofs.fit.Tie as tie
 
 train-requires : tie.Need-train-requires
-train-requires c κs = let P = c .before .before .before .before .before .before .before .before .before .before .pre in (ready-long (P .0) (c .before .before .before .load .kept .0), P .1, P .2)
+train-requires c κs = let P = c .before .before .before .before .before .before .before .before .before .before .pre in (ready-long (P .0) (c .before .before .before .load .kept .0), P .1, P .2, P .5)
 
 reply-requires : tie.Need-reply-requires
 reply-requires c κs = let P = c .before .before .before .before .before .before .before .before .before .before .before .before .before .before .before .pre in (ready-long (P .0) (c .before .before .before .before .train .kept .0 ∙ c .before .before .before .before .before .before .before .before .load .kept .0), P .4)

@@ -12,7 +12,7 @@ slice-aggregate-fit : tie.Need-slice-aggregate-fit
 slice-aggregate-fit c = simp length-take (omega arith)
 
 fit-requires : tie.Need-fit-requires
-fit-requires c κs = let P = c .before .before .before .before .before .before .before .before .pre in (ready-taken (P .0), P .1, P .2, P .3, P .4)
+fit-requires c κs = let P = c .before .before .before .before .before .before .before .before .pre in (ready-taken (P .0), P .1, P .2, P .3, P .4, P .6)
 
 returns : tie.Need-returns
 returns c =

@@ -1,3 +1,5 @@
+use lib.Ieee.{binary64}
+use lib.Ieee.Bits.{ofBits-fits}
 use mathlib.Core.Path.{refl}
 use native.Mathlib.Omega.{arith}
 use denote.Ref.{now}
@@ -20,7 +22,7 @@ fit-cleared-requires c κs =
     let R = s .pre .0 in
     let o = R .most in
     let q = usable-one-class (a .n) (now (a .m)) (a .budget) (R .most) (R .matrix) (a .nu) (a .eps) (s .pre .1) in
-    (rw (c .before .before .before .before .before .given .ensures) (record { matrix = q .matrix; square = refl; labels = omega (arith, o); floats = R .floats }), rw (c .before .before .before .before .before .given .ensures) (R .some), q .budget-most, rw (c .before .before .before .before .before .given .ensures) (omega (arith, o)), rw (c .before .before .before .before .before .given .ensures) (R .result), rw (c .before .before .before .before .before .given .ensures) (R .bytes))
+    (rw (c .before .before .before .before .before .given .ensures) (record { matrix = q .matrix; square = refl; labels = omega (arith, o); floats = R .floats }), rw (c .before .before .before .before .before .given .ensures) (R .some), q .budget-most, rw (c .before .before .before .before .before .given .ensures) (omega (arith, o)), rw (c .before .before .before .before .before .given .ensures) (R .result), rw (c .before .before .before .before .before .given .ensures) (R .bytes), ofBits-fits binary64 0)
 
 returns : tie.Need-returns
 returns c =

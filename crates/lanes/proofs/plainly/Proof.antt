@@ -1,4 +1,4 @@
-use Prim.Native.Nat.{_+_, _≤_, _-_}
+use Prim.Native.Nat.{_+_, _-_, _≤_}
 use mathlib.Core.Bool.{true, false, cond}
 use mathlib.Core.Path.{_≡_, refl, _∙_}
 use native.Mathlib.Numerals.{add-one}
@@ -10,8 +10,8 @@ use Rattle.extreme.specs.Best.{atMost, best}
 use Rattle.extreme.specs.Racing.{below, raceOf}
 use Rattle.extreme.proofs.Racing.{race-weighed}
 use borrow.Author.Needs.{needs}
-use Rattle.picks.proofs.lowest.Statement.{statement}
-use Rattle.picks.proofs.lowest.Tie as tie
+use Rattle.lanes.proofs.plainly.Statement.{statement}
+use Rattle.lanes.proofs.plainly.Tie as tie
 
 abbrev Inv-loop : tie.InvT-loop
 Inv-loop f o n nu r₀ k₀ r k = (k ≤ n) × (r ≡ raceOf n (best (cond nu below atMost) (inf false) (λ k. true) (λ k. getD f (o + k) nan) k))
@@ -36,8 +36,8 @@ returns c =
     let e : c .before .loop .k ≡ c .before .before .before .args .n = omega arith in
     rw e at (c .before .loop .inv .1)
 
-pub lowest-spec : {M : Type 1} → statement M
-lowest-spec =
+pub plainly-spec : {M : Type 1} → statement M
+plainly-spec =
     tie.close
     (tie.spec
     Inv-loop

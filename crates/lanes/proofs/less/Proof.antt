@@ -1,5 +1,5 @@
-use Rattle.picks.proofs.less.Statement.{statement}
-use Rattle.picks.proofs.less.Tie as tie
+use Rattle.lanes.proofs.less.Statement.{statement}
+use Rattle.lanes.proofs.less.Tie as tie
 
 returns : tie.Need-returns
 returns c = rw (c .if1 .taken)

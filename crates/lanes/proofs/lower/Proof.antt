@@ -1,0 +1,14 @@
+use Rattle.lanes.specs.Lanes.{lowerOf}
+use Rattle.lanes.proofs.lower.Statement.{statement}
+use Rattle.lanes.proofs.lower.Tie as tie
+
+returns : tie.Need-returns
+unfolding lowerOf
+returns c = rw (c .if1 .taken)
+
+returns-2 : tie.Need-returns-2
+unfolding lowerOf
+returns-2 c = rw (c .if1 .left)
+
+pub lower-spec : {M : Type 1} → statement M
+lower-spec = tie.close (tie.spec returns returns-2)
