@@ -2,7 +2,11 @@
 """Makes kernel figures from real captions: those of Debian's package python3-django, in twelve languages.
 
     captions/make.py all [FOLDER]   every pair of languages, 512 training captions each, into FOLDER (target/captions)
-    captions/make.py ship [FOLDER]  the two pairs that ship with the repository, 64 training captions each, into FOLDER (captions)
+    captions/make.py twelve N [FOLDER]
+                                    all twelve languages in one file, twelve.txt, N training captions of each language (up to 256),
+                                    into FOLDER (target/languages)
+    captions/make.py ship [FOLDER]  what ships with the repository, into FOLDER (captions): two pairs, 64 training captions each, and
+                                    twelve.txt with 32 of each language
     captions/make.py texts FIRST SECOND N
                                     prints the first N training captions of two languages themselves, a line each, in the order of
                                     the figures
@@ -21,6 +25,7 @@ from collections import Counter
 
 LANGUAGES = "cs da de es fi fr hu it nl pl sk sv".split()
 SHIPPED = [("cs", "sk"), ("da", "sv")]
+SHIPPED_OF_EACH = 32
 PACKAGE = "python3-django"
 ROOT = "/usr/lib/python3/dist-packages/django"
 HERE = os.path.dirname(os.path.abspath(__file__))
@@ -67,23 +72,23 @@ def usable(caption):
     return any(c.isalpha() for c in caption) and not any(c in "%{<\n" for c in caption)
 
 
-def chosen(first, second):
-    """The msgids whose captions are taken of two languages, in the order of their SHA-256."""
+def chosen(*languages):
+    """The msgids whose captions are taken of these languages, in the order of their SHA-256."""
     seen, msgids = set(), []
-    for msgid in sorted(set(first) & set(second), key=lambda m: hashlib.sha256(m.encode("utf-8")).digest()):
-        if not (usable(first[msgid]) and usable(second[msgid])):
+    for msgid in sorted(set.intersection(*map(set, languages)), key=lambda m: hashlib.sha256(m.encode("utf-8")).digest()):
+        if not all(usable(language[msgid]) for language in languages):
             continue
-        a, b = plain(first[msgid]), plain(second[msgid])
-        if a == b or a in seen or b in seen:
+        own = {plain(language[msgid]) for language in languages}
+        if len(own) < len(languages) or own & seen:
             continue
-        seen.update((a, b))
+        seen |= own
         msgids.append(msgid)
     return msgids
 
 
-def selected(first, second):
-    """The pairs of captions of two languages, in that order."""
-    return [(plain(first[msgid]), plain(second[msgid])) for msgid in chosen(first, second)]
+def selected(*languages):
+    """The captions of these languages, one of each together, in that order."""
+    return [tuple(plain(language[msgid]) for language in languages) for msgid in chosen(*languages)]
 
 
 def texts(first, second, training):
@@ -122,7 +127,7 @@ class Products:
 
 
 def figures(pairs, training, head):
-    """The lines of a file: one for each training caption, then one for each held-out caption."""
+    """The lines of a pair's file: one for each training caption, then one for each held-out caption."""
     captions = [(label, grams(text)) for pair in pairs for label, text in zip((1, 0), pair)]
     train, held = captions[:training], captions[2 * TRAINING_MSGIDS:]
     products = Products([counts for _, counts in train])
@@ -132,6 +137,21 @@ def figures(pairs, training, head):
     for label, counts in held:
         own = sum(count * count for count in counts.values())
         lines.append(" ".join(map(str, (label, own, *products.row(counts)))))
+    return "\n".join(lines) + "\n"
+
+
+def parts(taken, of_each, head):
+    """The lines of the file of all languages, captions in the same order: the label of each and its parts by their numbers."""
+    train, held = ([(label, grams(text)) for texts in some for label, text in enumerate(texts, 1)]
+                   for some in (taken[:of_each], taken[TRAINING_MSGIDS:]))
+    often = Counter()
+    for _, counts in train + held:
+        often.update(counts)
+    numbers = {gram: k for k, gram in enumerate(sorted(often, key=lambda gram: (-often[gram], gram)))}
+    lines = head + [f"train {len(train)}", f"held {len(held)}"]
+    for label, counts in train + held:
+        own = sorted(numbers[gram] for gram in counts.elements())
+        lines.append(" ".join(map(str, (label, own[0], *(b - a for a, b in zip(own, own[1:]))))))
     return "\n".join(lines) + "\n"
 
 
@@ -152,21 +172,32 @@ def write(path, text):
     os.replace(path + ".part", path)
 
 
-def make(pairs, training, folder, command):
+def make(files, folder, command):
+    """Writes a file for each (name, what is in it, languages, what makes its lines of the captions taken and a head)."""
     version = installed()
     os.makedirs(folder, exist_ok=True)
     catalogues = {language: catalogue(language) for language in LANGUAGES}
-    for a, b in pairs:
-        taken = selected(catalogues[a], catalogues[b])
+    for name, what, languages, lines in files:
+        taken = selected(*(catalogues[language] for language in languages))
         if len(taken) <= TRAINING_MSGIDS:
-            raise SystemExit(f"{a}/{b}: {len(taken)} captions are not enough")
+            raise SystemExit(f"{name}: {len(taken)} captions are not enough")
         head = [
-            f"# Products of captions, from Debian's {PACKAGE} {version} (BSD-3-Clause), made by: {command}",
+            f"# {what} of captions, from Debian's {PACKAGE} {version} (BSD-3-Clause), made by: {command}",
             "# What stands where: captions/README.md",
             f"package {PACKAGE} {version}",
-            f"languages {a} {b}",
+            f"languages {' '.join(languages)}",
         ]
-        write(os.path.join(folder, f"{a}-{b}.txt"), figures(taken, training, head))
+        write(os.path.join(folder, f"{name}.txt"), lines(taken, head))
+
+
+def of_pairs(pairs, training):
+    """The files of pairs of languages."""
+    return [("-".join(pair), "Products", pair, lambda taken, head: figures(taken, training, head)) for pair in pairs]
+
+
+def of_twelve(of_each):
+    """The file of all languages."""
+    return [("twelve", "Parts", LANGUAGES, lambda taken, head: parts(taken, of_each, head))]
 
 
 def main(words):
@@ -178,9 +209,13 @@ def main(words):
             sys.stdout.buffer.write(caption.encode("utf-8") + b"\n")
     elif words[:1] == ["all"] and len(words) <= 2:
         folder = words[1] if len(words) == 2 else os.path.join(HERE, "..", "target", "captions")
-        make(list(itertools.combinations(LANGUAGES, 2)), 2 * TRAINING_MSGIDS, folder, "captions/make.py all")
+        make(of_pairs(itertools.combinations(LANGUAGES, 2), 2 * TRAINING_MSGIDS), folder, "captions/make.py all")
+    elif words[:1] == ["twelve"] and len(words) in (2, 3) and words[1].isdecimal() and 1 <= int(words[1]) <= TRAINING_MSGIDS:
+        folder = words[2] if len(words) == 3 else os.path.join(HERE, "..", "target", "languages")
+        make(of_twelve(int(words[1])), folder, f"captions/make.py twelve {int(words[1])}")
     elif words[:1] == ["ship"] and len(words) <= 2:
-        make(SHIPPED, 64, words[1] if len(words) == 2 else HERE, "captions/make.py ship")
+        folder = words[1] if len(words) == 2 else HERE
+        make(of_pairs(SHIPPED, 64) + of_twelve(SHIPPED_OF_EACH), folder, "captions/make.py ship")
     else:
         sys.exit(__doc__.strip())
 

@@ -1,5 +1,6 @@
 """Tests of make.py on captions made up here; the package isn't needed."""
 import io
+import itertools
 import os
 import struct
 import tempfile
@@ -52,6 +53,18 @@ class Selection(unittest.TestCase):
         second = {"a": "Áno", "b": "Nie", "c": "Start", "d": "Hej", "f": "Nic"}
         # SHA-256 puts b (3e23..) before a (ca97..), and d (18ac..) before both. d's caption is a's, so a goes.
         self.assertEqual(make.selected(first, second), [(" ano ", " hej "), (" ne ", " nie ")])
+
+    def test_left_out_of_several(self):
+        first = {"a": "Ano", "b": "Ne", "d": "Dva", "e": "Zde", "f": "Nic"}
+        second = {"a": "Áno", "b": "Nie", "d": "Dve", "e": "Tu", "f": "Nul"}
+        third = {"a": "Ja", "b": "Nej", "d": "dva", "e": "{0}", "g": "Mer"}
+        # d has the same text twice, e a template, f and g aren't in all.
+        self.assertEqual(make.selected(first, second, third), [(" ne ", " nie ", " nej "), (" ano ", " áno ", " ja ")])
+        # Without the third d is there, and before both.
+        self.assertEqual(make.chosen(first, second)[:2], ["d", "f"])
+        # One caption of b was taken from d, in another language, so b goes.
+        third["d"] = "Ne"
+        self.assertEqual(make.chosen(first, second, third), ["d", "a"])
 
 
 class Texts(unittest.TestCase):
@@ -117,6 +130,62 @@ class Figures(unittest.TestCase):
         held = make.grams(pairs[-1][1])
         last = [0, self.naive(held, held)] + [self.naive(held, t) for t in train]
         self.assertEqual([int(word) for word in lines[-1].split()], last)
+
+
+class Twelve(unittest.TestCase):
+    def parts(self, line):
+        """A caption's label and its parts' numbers."""
+        label, *gaps = map(int, line.split())
+        return label, list(itertools.accumulate(gaps))
+
+    def test_parts_have_the_products_of_the_texts(self):
+        texts = [("Uložit", "Uložiť", "Save"), ("Zpět", "Späť", "Back"), ("aaaa", "aabaa", "Ahoj")]
+        texts = [tuple(make.plain(text) for text in group) for group in texts]
+        with mock.patch("make.TRAINING_MSGIDS", 2):
+            lines = make.parts(texts, 1, ["head"]).splitlines()
+        self.assertEqual(lines[:3], ["head", "train 3", "held 3"])
+        told = [self.parts(line) for line in lines[3:]]
+        self.assertEqual([label for label, _ in told], [1, 2, 3, 1, 2, 3])
+        counts = [make.Counter(numbers) for _, numbers in told]
+        grams = [make.grams(text) for group in (texts[0], texts[2]) for text in group]
+        for a, x in zip(counts, grams):
+            for b, y in zip(counts, grams):
+                self.assertEqual(sum(a[part] * b[part] for part in a), sum(x[gram] * y[gram] for gram in x))
+
+    def test_parts_are_numbered_by_how_often_they_stand(self):
+        with mock.patch("make.TRAINING_MSGIDS", 1):
+            lines = make.parts([(" a ", " aa "), (" b ", " a ")], 1, []).splitlines()
+        # ' ' stands eight times, 'a' four, ' a' and 'a ' three, ' a ' two, all others one; of equals the first by its characters is first.
+        self.assertEqual(lines[2:], ["1 0 0 1 1 1 1", "2 0 0 1 0 1 1 2 3 1", "1 0 0 6 1 3 1", "2 0 0 1 1 1 1"])
+
+    def test_which_are_held_out(self):
+        taken = [(f" a{k} ", f" b{k} ", f" c{k} ") for k in range(make.TRAINING_MSGIDS + 2)]
+        for of_each in (1, 5, make.TRAINING_MSGIDS):
+            lines = make.parts(taken, of_each, []).splitlines()
+            self.assertEqual(lines[:2], [f"train {3 * of_each}", "held 6"])
+            self.assertEqual(len(lines), 2 + 3 * of_each + 6)
+
+    def test_written(self):
+        catalogue = {f"m{k}": f"caption {k}" for k in range(make.TRAINING_MSGIDS + 1)}
+        own = {language: {m: f"{c} {language}" for m, c in catalogue.items()} for language in make.LANGUAGES}
+        with tempfile.TemporaryDirectory() as folder, mock.patch("make.installed", return_value="1"), \
+                mock.patch("make.catalogue", side_effect=own.get):
+            make.main(["twelve", "2", folder])
+            self.assertEqual(os.listdir(folder), ["twelve.txt"])
+            with open(os.path.join(folder, "twelve.txt"), encoding="ascii") as file:
+                lines = file.read().splitlines()
+            self.assertTrue(lines[0].endswith("made by: captions/make.py twelve 2"))
+            self.assertEqual(lines[3:6], ["languages " + " ".join(make.LANGUAGES), "train 24", "held 12"])
+            make.main(["ship", folder])
+            self.assertEqual(sorted(os.listdir(folder)), ["cs-sk.txt", "da-sv.txt", "twelve.txt"])
+            with open(os.path.join(folder, "twelve.txt"), encoding="ascii") as file:
+                self.assertIn(f"\ntrain {12 * make.SHIPPED_OF_EACH}\n", file.read())
+
+    def test_wrong_words(self):
+        for words in (["twelve"], ["twelve", "0"], ["twelve", "257"], ["twelve", "x"], ["twelve", "-1"], ["twelve", "8", "a", "b"]):
+            with self.assertRaises(SystemExit) as caught:
+                make.main(words)
+            self.assertIn("captions/make.py twelve N [FOLDER]", str(caught.exception))
 
 
 if __name__ == "__main__":

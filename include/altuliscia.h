@@ -3,7 +3,8 @@
  *
  * Which to call. altuliscia_train_c and its four fellows take doubles and fill a struct: they are the ones to write by hand;
  * altuliscia_train_c_tuned and so on for who wants another floor of the curvature than 1e-10 (LIBSVM has 1e-12), and
- * altuliscia_find_pair for who replays one step of a run. They are inline, over functions on bytes (altuliscia_c and so on), which are
+ * altuliscia_find_pair for who replays one step of a run; altuliscia_vote for who has several languages, or classes, and a training
+ * for each pair of them. They are inline, over functions on bytes (altuliscia_c and so on), which are
  * what the archive has, what is proved, and what other languages call. The inline ones are tested, not proved.
  *
  * How to use the answer. home[s] is the weight of sample s (its dual coefficient), K(s, x) the kernel value of sample s and something
@@ -50,7 +51,7 @@ extern "C" {
 
 /* The version of this header; altuliscia_version tells the library's. docs/STABLE.md has what stays as it is. */
 #define ALTULISCIA_VERSION_MAJOR 1
-#define ALTULISCIA_VERSION_MINOR 4
+#define ALTULISCIA_VERSION_MINOR 5
 #define ALTULISCIA_VERSION_PATCH 0
 
 /* The most samples and the largest budget that are accepted. */
@@ -85,6 +86,13 @@ extern "C" {
 
 /* What altuliscia_pair writes: two doubles. */
 #define ALTULISCIA_PAIR_BYTES 16
+
+/* altuliscia_votes: how many languages are accepted, how many pairs they have, and the answer, three numbers of eight bytes. */
+#define ALTULISCIA_FEWEST_LANGUAGES 2
+#define ALTULISCIA_MOST_LANGUAGES 12
+#define ALTULISCIA_PAIRS_OF(languages) ((languages) * ((languages) - 1) / 2)
+#define ALTULISCIA_ELECTION_BYTES 24
+#define ALTULISCIA_AT_WINNER 16     /* the winner's number, from 1 on; 0 where refused */
 
 /* Why an accepted run ended. */
 enum altuliscia_reason {
@@ -213,6 +221,28 @@ uint64_t altuliscia_one_class_tuned(size_t n, const uint8_t *matrix, size_t matr
 uint64_t altuliscia_pair(uint64_t weight_i, uint64_t ceiling_i, uint64_t weight_j, uint64_t ceiling_j, uint64_t gradient_i,
                          uint64_t gradient_j, uint64_t diagonal_i, uint64_t diagonal_j, uint64_t entry, uint8_t agree, uint8_t *pair,
                          size_t pair_len);
+
+/* Several languages from pairs of trainings: which of 2 to 12 languages has the most votes on a new caption. Languages are numbered from 1 on, and the
+ * pairs run (1,2), (1,3) and so on, then (2,3) and so on: ALTULISCIA_PAIRS_OF(languages) of them. For each pair there was a training
+ * with the first language for its positive label. Lent are, pair after pair: the home coefficients of all pairs in one list of doubles,
+ * the kernel values of each pair's captions and the new one in another, in two lists of 8-byte numbers how many coefficients and how many
+ * kernel values each pair has, and a rho for each pair, a double. A pair may have none: its sum is 0.
+ *
+ * A pair's sum is formed in sample order, from +0, over all its coefficients: coefficient times kernel value, rounded, is added, rounded.
+ * Where the sum less rho is 0 or above the pair votes for its first language, else, and where it is NaN, for its second. The most votes
+ * win, and of equals the lowest number. The votes total the number of pairs.
+ *
+ * Where nothing is refused the result is 0, `votes` holds the votes of each language, 8-byte numbers, and `answer` 0, 0 and the winner's
+ * number. Else the result is the refusal's number, `votes` stays as it was, and `answer` holds the number, its index and 0. The numbers
+ * are this function's own: 1 for a number of languages outside 2 to 12; 2 where, in this order, a list of counts has no number for each
+ * pair, a pair's two counts differ (index: the pair, counted from 0), the lists of coefficients and of kernel values aren't as long as the
+ * counts say, `rhos` hasn't one for each pair, or `votes` not exactly 8 bytes for each language. Where `answer` is shorter than 24 bytes
+ * nothing is written, and the result is 1, where that applies, or 2. What lies behind 24 bytes stays. `votes` and `answer` may overlap
+ * nothing else that is lent. */
+uint64_t altuliscia_votes(uint64_t languages, const uint8_t *coefficients, size_t coefficients_len, const uint8_t *values,
+                          size_t values_len, const uint8_t *coefficient_counts, size_t coefficient_counts_len,
+                          const uint8_t *value_counts, size_t value_counts_len, const uint8_t *rhos, size_t rhos_len,
+                          uint8_t *votes, size_t votes_len, uint8_t *answer, size_t answer_len);
 
 /* The version of the library that is linked: 10000*major + 100*minor + patch. */
 uint64_t altuliscia_version(void);
@@ -397,6 +427,28 @@ static inline altuliscia_left altuliscia_find_pair(double weight_i, double ceili
                     altuliscia_bits(diagonal_j), altuliscia_bits(entry), agree != 0, ALTULISCIA_CAST(uint8_t *, &left),
                     ALTULISCIA_PAIR_BYTES);
     return left;
+}
+
+/* The answer of the votes, as it stands in its 24 bytes. */
+typedef struct altuliscia_election {
+    uint64_t refusal; /* 0 where accepted, else 1 or 2, as altuliscia_votes says */
+    uint64_t index;   /* the pair, counted from 0, whose two counts differ, else 0 */
+    uint64_t winner;  /* the winner's number, from 1 on; 0 where refused */
+} altuliscia_election;
+typedef char altuliscia_election_has_24_bytes[sizeof(altuliscia_election) == ALTULISCIA_ELECTION_BYTES ? 1 : -1];
+
+/* altuliscia_votes with doubles: counts[p] coefficients and as many kernel values for pair p. `votes` has a place for each language. A
+ * list that is NULL counts as one of length 0. */
+static inline uint64_t altuliscia_vote(uint64_t languages, const double *coefficients, const double *values, const uint64_t *counts,
+                                       const double *rhos, uint64_t *votes, altuliscia_election *election) {
+    size_t pairs = 0, all = 0, p;
+    if (languages >= ALTULISCIA_FEWEST_LANGUAGES && languages <= ALTULISCIA_MOST_LANGUAGES)
+        pairs = ALTULISCIA_PAIRS_OF(languages);
+    for (p = 0; counts && p < pairs; p++)
+        all += counts[p];
+    return altuliscia_votes(languages, ALTULISCIA_READ(coefficients, all), ALTULISCIA_READ(values, all), ALTULISCIA_READ(counts, pairs),
+                            ALTULISCIA_READ(counts, pairs), ALTULISCIA_READ(rhos, pairs), ALTULISCIA_WRITTEN(votes, languages),
+                            ALTULISCIA_WRITTEN(election, 3u));
 }
 
 /* Whether an answer is to be used: accepted, ended by the threshold, rho finite, and under the nu rule r finite and not 0. */

@@ -3,16 +3,18 @@ _altuliscia() {
     local word=${COMP_WORDS[COMP_CWORD]} before=${COMP_WORDS[COMP_CWORD - 1]} offered=
     COMPREPLY=()
     if [ "$COMP_CWORD" = 1 ]; then
-        offered='train weights check trail --help --version'
+        offered='train sort weights check trail --help --version'
+    elif [ "${COMP_WORDS[1]}" = sort ]; then
+        [[ $word != -* ]] || offered='--votes --labels -q --help'
     else
         case $before in
             -s) offered='0 1 2' ;;
             -t) offered=4 ;;
             -h) offered='0 1' ;;
-            -c | -n | -e | -w* | --budget | --floor | --sample) return ;;
+            -c | -n | -e | -w* | --budget | --floor | --sample | --pair) return ;;
             --retired | --captions) ;;
             *)
-                [[ $word != -* ]] || offered='-s -c -w1 -w-1 -n -e -h --budget --floor --retired -t -q --help'
+                [[ $word != -* ]] || offered='-s -c -w1 -w-1 -n -e -h --budget --floor --retired --pair -t -q --help'
                 [ -z "$offered" ] || [ "${COMP_WORDS[1]}" != trail ] || offered="--sample --captions $offered"
                 ;;
         esac

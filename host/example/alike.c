@@ -1,6 +1,6 @@
 /* Makes each drawn call twice, by altuliscia_train_X and by altuliscia_X, and compares what is returned and every byte that is written;
- * so with a drawn tuning, and with drawn steps, by altuliscia_find_pair and altuliscia_pair. Then what only the former can be handed. C99
- * and C++98. The exit status is 1 where anything differs. */
+ * so with a drawn tuning, with drawn steps, by altuliscia_find_pair and altuliscia_pair, and with drawn panels, by altuliscia_vote and
+ * altuliscia_votes. Then what only the former can be handed. C99 and C++98. The exit status is 1 where anything differs. */
 #include "altuliscia.h"
 
 #include <stdio.h>
@@ -251,6 +251,59 @@ static int steps(void) {
     return moved <= RUNS / 4;
 }
 
+/* What a vote writes, and a place behind it. */
+struct elected {
+    uint64_t votes[ALTULISCIA_MOST_LANGUAGES + 2];
+    altuliscia_election election;
+    uint64_t behind, returned;
+};
+
+/* Panels of 1 to 13 languages, with up to seven coefficients for each pair. */
+static int panels(void) {
+    enum { PAIRS = ALTULISCIA_PAIRS_OF(ALTULISCIA_MOST_LANGUAGES) };
+    static double coefficients[7 * PAIRS], values[7 * PAIRS], rhos[PAIRS];
+    int accepted = 0, ties = 0;
+    for (int k = 0; k < RUNS; k++) {
+        uint64_t counts[PAIRS], languages = 1 + below(13), least = languages < 2 || languages > 12, sum = 0;
+        size_t pairs = least ? 0 : ALTULISCIA_PAIRS_OF(languages), all = 0, p;
+        struct elected a, b;
+        for (p = 0; p < pairs; p++) {
+            counts[p] = below(8);
+            rhos[p] = (double)below(9) - 4;
+            all += counts[p];
+        }
+        for (p = 0; p < all; p++) {
+            coefficients[p] = ((double)below(9) - 4) / 4;
+            values[p] = (double)below(9) / 8;
+        }
+        memset(&a, 0xa5, sizeof a);
+        memset(&b, 0xa5, sizeof b);
+        a.returned = altuliscia_vote(languages, coefficients, values, counts, rhos, a.votes, &a.election);
+        b.returned = altuliscia_votes(languages, READ(coefficients), 8 * all, READ(values), 8 * all, READ(counts), 8 * pairs,
+                                      READ(counts), 8 * pairs, READ(rhos), 8 * pairs, (uint8_t *)b.votes, 8 * languages,
+                                      (uint8_t *)&b.election, 24);
+        if (memcmp(&a, &b, sizeof a) != 0 || a.returned != least || a.election.refusal != least) {
+            printf("panel %d differs\n", k);
+            return 1;
+        }
+        if (least)
+            continue;
+        int most = 0;
+        for (p = 0; p < languages; p++) {
+            sum += a.votes[p];
+            most += a.votes[p] == a.votes[a.election.winner - 1];
+        }
+        if (sum != pairs || a.votes[languages] != a.behind) {
+            printf("panel %d has other votes\n", k);
+            return 1;
+        }
+        accepted++;
+        ties += most > 1;
+    }
+    printf("%d panels alike, %s\n", RUNS, accepted < RUNS && ties > RUNS / 20 ? "some of them ties" : "too few of a kind");
+    return !(accepted < RUNS && ties > RUNS / 20);
+}
+
 static int failed;
 
 static void expect(const char *what, int holds) {
@@ -333,11 +386,40 @@ static void odd_tuned(void) {
     expect("14", altuliscia_train_retired_tuned(2, m, y, d, d, d, nobody, 0, 0, 10, &t, NULL, home, &shorter) == 14);
 }
 
+/* Lists that aren't there, and what decides a vote. */
+static void odd_votes(void) {
+    const double one[] = {1}, half[] = {0.5}, below_half[] = {0.49999999999999994}, none[] = {matrix[0] - matrix[0]}, low[] = {-1};
+    const double not_a_number[] = {none[0] / none[0]}, two[] = {1, 1};
+    const uint64_t single[] = {1}, empty[] = {0}, large[] = {(uint64_t)1 << 61};
+    uint64_t votes[2] = {7, 7};
+    altuliscia_election e;
+    expect("0 languages is 1", altuliscia_vote(0, one, one, single, one, votes, &e) == 1 && e.refusal == 1 && e.winner == 0);
+    expect("1 language is 1", altuliscia_vote(1, one, one, single, one, votes, &e) == 1);
+    expect("2^64 - 1 languages is 1", altuliscia_vote((uint64_t)-1, one, one, single, one, votes, &e) == 1);
+    expect("no counts is 2", altuliscia_vote(2, one, one, NULL, one, votes, &e) == 2 && e.refusal == 2 && e.index == 0);
+    expect("no coefficients is 2", altuliscia_vote(2, NULL, one, single, one, votes, &e) == 2);
+    expect("no values is 2", altuliscia_vote(2, one, NULL, single, one, votes, &e) == 2);
+    expect("no rhos is 2", altuliscia_vote(2, one, one, single, NULL, votes, &e) == 2);
+    expect("no votes is 2", altuliscia_vote(2, one, one, single, one, NULL, &e) == 2);
+    expect("no election is 2", altuliscia_vote(2, one, one, single, one, votes, NULL) == 2);
+    expect("no election of 13 is 1", altuliscia_vote(13, one, one, single, one, votes, NULL) == 1);
+    expect("more than there can be is 2", altuliscia_vote(2, one, one, large, one, votes, &e) == 2);
+    expect("untouched", votes[0] == 7 && votes[1] == 7);
+    expect("a pair of nothing", altuliscia_vote(2, NULL, NULL, empty, low, votes, &e) == 0 && e.winner == 1 && votes[0] == 1);
+    expect("0 is the first's", altuliscia_vote(2, one, half, single, half, votes, &e) == 0 && e.winner == 1 && votes[1] == 0);
+    expect("below 0 the second's", altuliscia_vote(2, one, below_half, single, half, votes, &e) == 0 && e.winner == 2);
+    expect("NaN the second's", altuliscia_vote(2, one, one, single, not_a_number, votes, &e) == 0 && e.winner == 2 && votes[1] == 1);
+    expect("the counts of a pair", altuliscia_votes(2, READ(two), 16, READ(one), 8, READ(single), 8, READ(empty), 8, READ(one), 8,
+                                                    (uint8_t *)votes, 16, (uint8_t *)&e, 24) == 2);
+}
+
 int main(void) {
     int differ = drawn();
     differ |= tunings();
     differ |= steps();
+    differ |= panels();
     odd();
     odd_tuned();
+    odd_votes();
     return differ || failed;
 }

@@ -3,7 +3,7 @@
 #
 #   host/example/header.sh [ARCHIVE]
 #
-# What must compile (kept.c, example.c, alike.c, tuned.c), what must not (wrong.c), and, where an archive for this machine is given, that
+# What must compile (kept.c, example.c, languages.c, alike.c, tuned.c), what must not (wrong.c), and, where an archive for this machine is given, that
 # the programs run as expected. A compiler that is missing is told by a line 'NOT RUN: ..'.
 set -euo pipefail
 [ $# = 0 ] || archive=$(realpath -- "$1")
@@ -12,8 +12,8 @@ made=$(mktemp -d)
 trap 'rm -rf "$made"' EXIT
 strict='-Wall -Wextra -Werror -pedantic -Wconversion -Wshadow -Iinclude'
 bits=$(echo -DB{1..26}=w)
-lists=$(echo -DL{1..10}=d)
-tunings=$(echo -DT{1..5}=t -DR{1..4}=r)
+lists=$(echo -DL{1..13}=d)
+tunings=$(echo -DT{1..5}=t -DR{1..4}=r -DN{1..2}=n -DE1=e)
 tried=0
 
 # must COMMAND: it succeeds.
@@ -42,28 +42,30 @@ compiled() {
     must $compile/kept.c -DALTULISCIA_UNGUARDED
     [ "$2" != c89 ] || return 0
     must $compile/example.c
+    must $compile/languages.c
     must $compile/wrong.c $bits $lists $tunings
     for place in B{1..26}; do
         for wrong in x f; do must_not 'invalid operands' $compile/wrong.c ${bits/$place=w/$place=$wrong} $lists $tunings; done
     done
     must $compile/wrong.c ${bits/B3=w/B3=x} $lists $tunings -DALTULISCIA_UNGUARDED -Wno-conversion -Wno-float-conversion
-    for place in L{1..10}; do
+    for place in L{1..13}; do
         for wrong in m g; do
             must_not 'incompatible|cannot convert|no matching' $compile/wrong.c $bits ${lists/$place=d/$place=$wrong} $tunings
         done
     done
-    for wrong in T{1..5}=d R{1..4}=s; do
-        must_not 'incompatible|cannot convert|no matching' $compile/wrong.c $bits $lists ${tunings/${wrong%=*}=[tr]/$wrong}
+    for wrong in T{1..5}=d R{1..4}=s N{1..2}=d E1=s; do
+        must_not 'incompatible|cannot convert|no matching' $compile/wrong.c $bits $lists ${tunings/${wrong%=*}=[trne]/$wrong}
     done
 }
 
 # ran COMPILER STANDARD LANGUAGE
 ran() {
     local name link="$1 -std=$2 -x $3 ${strict/-Wconversion/} host/example"
-    for name in example alike tuned; do
+    for name in example languages alike tuned; do
         must $link/$name.c -x none "$archive" -o "$made/$name"
     done
     "$made/example" | diff host/example/expected.txt -
+    "$made/languages" | diff host/example/languages.txt -
     for name in alike tuned; do
         "$made/$name" > "$made/told" || { cat "$made/told" && exit 1; }
     done

@@ -25,6 +25,8 @@ uint64_t kept(const uint8_t *m, const uint8_t *y, const uint8_t *d, uint64_t w, 
     sum += altuliscia_c_tuned(2, SLICE(m, 32), SLICE(y, 2), w, BITS, 1, 10, SLICE(NULL, 0), SLICE(c, 16), SLICE(h, 16), SLICE(a, 128));
     sum += (altuliscia_nu_tuned)(2, m, 32, y, 2, narrow, w, 0, 10, SLICE(d, 8), c, 16, h, 16, a, 128);
     sum += altuliscia_one_class_tuned(2, m, 32, w ? w : 1, 0 /* eps */, 0, 10, NULL, 0, c, 16, h, 16, a, ALTULISCIA_TUNED_ANSWER_BYTES);
+    sum += altuliscia_votes(2, d, 16, d, 16, d, 8, SLICE(d, 8), d, 8, c, 16, SLICE(a, ALTULISCIA_ELECTION_BYTES));
+    sum += (altuliscia_votes)(w, NULL, 0, NULL, 0, d, 8, d, 8, d, 8, c, 16, a, 24);
 #if defined(__STDC_VERSION__) && __STDC_VERSION__ >= 199901L
     sum += altuliscia_nu(2, m, 32, ((const uint8_t[]){1, 0}), 2, w, w, 0, 10, c, 16, h, 16, a, 72);
 #endif

@@ -8,17 +8,18 @@
 #include <stdlib.h>
 #include <string.h>
 
-enum { MOST = 512, ROOM = 1 << 20, PAINT = 0xa5, RUNS = 400, FORMS = 4, KINDS = 6 };
+enum { MOST = 512, ROOM = 1 << 20, PAINT = 0xa5, RUNS = 400, FORMS = 4, KINDS = 7 };
 
 /* On bytes, without a tuning and with one; with doubles, likewise. */
 static const char *const names[FORMS][KINDS] = {
-    {"general", "c", "nu", "one_class", "retired", "pair"},
-    {"general_tuned", "c_tuned", "nu_tuned", "one_class_tuned", NULL, NULL},
-    {"train_general", "train_c", "train_nu", "train_one_class", "train_retired", "find_pair"},
-    {"train_general_tuned", "train_c_tuned", "train_nu_tuned", "train_one_class_tuned", "train_retired_tuned", NULL}};
+    {"general", "c", "nu", "one_class", "retired", "pair", "votes"},
+    {"general_tuned", "c_tuned", "nu_tuned", "one_class_tuned", NULL, NULL, NULL},
+    {"train_general", "train_c", "train_nu", "train_one_class", "train_retired", "find_pair", "vote"},
+    {"train_general_tuned", "train_c_tuned", "train_nu_tuned", "train_one_class_tuned", "train_retired_tuned", NULL, NULL}};
 
 static double matrix[MOST * MOST], ceilings[MOST], alphas[MOST], linear[MOST], crate_reading[MOST], home[MOST];
 static uint8_t labels[MOST], retired[MOST], answer[ALTULISCIA_TUNED_ANSWER_BYTES];
+static uint64_t counts[ALTULISCIA_PAIRS_OF(ALTULISCIA_MOST_LANGUAGES)], votes[ALTULISCIA_MOST_LANGUAGES];
 static const altuliscia_tuning tuning = {ALTULISCIA_USUAL_FLOOR};
 static uint64_t state, accepted;
 static uintptr_t call_begins;
@@ -53,6 +54,31 @@ static void fill(size_t n) {
             matrix[c * n + r] = points[c][0] * points[r][0] + points[c][1] * points[r][1] + points[c][2] * points[r][2];
 }
 
+/* As many coefficients for each pair of so many languages; the matrix has room for 512 in each of 66. */
+static size_t panel(size_t languages, size_t n) {
+    size_t pairs = ALTULISCIA_PAIRS_OF(languages);
+    for (size_t p = 0; p < pairs; p++)
+        counts[p] = n;
+    return pairs;
+}
+
+static uint64_t call_votes(size_t n) {
+    size_t languages = 2 + below(11), pairs = panel(languages, n), all = pairs * n;
+    const uint8_t *numbers = (const uint8_t *)counts, *m = (const uint8_t *)matrix;
+    return altuliscia_votes(languages, m, 8 * all, m, 8 * all, numbers, 8 * pairs, numbers, 8 * pairs, (const uint8_t *)linear,
+                            8 * pairs, (uint8_t *)votes, 8 * languages, answer, sizeof answer);
+}
+
+static uint64_t call_vote(size_t n) {
+    size_t languages = 2 + below(11);
+    altuliscia_election election;
+    panel(languages, n);
+    return altuliscia_vote(languages, matrix, matrix, counts, linear, votes, &election);
+}
+
+/* Volatile, so that the frames of the calls below are what they are without them. */
+static uint64_t (*volatile votings[2])(size_t) = {call_votes, call_vote};
+
 #define TUNING (const uint8_t *)&tuning, sizeof tuning
 
 static uint64_t call(int which, size_t n, uint8_t shrinking) {
@@ -76,10 +102,12 @@ static uint64_t call(int which, size_t n, uint8_t shrinking) {
         return altuliscia_retired(n, m, square, labels, n, (const uint8_t *)ceilings, list, (const uint8_t *)alphas, list,
                                   (const uint8_t *)linear, list, retired, n, (uint8_t)below(2), eps, 0, budget, TUNING, c, list, h,
                                   list, answer, sizeof answer);
-    default:
+    case 5:
         return altuliscia_pair(bits(alphas[0]), bits(ceilings[0]), bits(alphas[1]), bits(ceilings[1]), bits(linear[0]),
                                bits(linear[1]), bits(matrix[0]), bits(matrix[n + 1]), bits(matrix[1]), shrinking, answer,
                                sizeof answer);
+    default:
+        return votings[0](n);
     }
 }
 
@@ -123,6 +151,8 @@ static uint64_t call_train(int which, size_t n, uint8_t shrinking) {
     case 4:
         return altuliscia_train_retired(n, matrix, labels, ceilings, alphas, linear, retired, rule, 0.001, budget, NULL, home,
                                         &result);
+    case 6:
+        return votings[1](n);
     default: {
         altuliscia_left left = altuliscia_find_pair(alphas[0], ceilings[0], alphas[1], ceilings[1], linear[0], linear[1], matrix[0],
                                                     matrix[n + 1], matrix[1], shrinking);

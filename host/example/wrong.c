@@ -1,10 +1,12 @@
-/* Places for what can be handed over wrongly. With w, the bits, in B1 to B26, d, a list of doubles, in L1 to L10, t, a tuning, in T1 to T5
- * and r, the longer answer, in R1 to R4 this compiles; with a double or a float in one B, a list of bytes or floats in one L, a list of
- * doubles in one T, or the shorter answer, s, in one R it must not. header.sh tries each. */
+/* Places for what can be handed over wrongly. With w, the bits, in B1 to B26, d, a list of doubles, in L1 to L13, t, a tuning, in T1 to T5,
+ * r, the longer answer, in R1 to R4, n, a list of numbers, in N1 and N2 and e, the answer of the votes, in E1 this compiles; with a double or
+ * a float in one B, a list of bytes or floats in one L, a list of doubles in one T or N, or the shorter answer of a training, s, in one R or
+ * E it must not. header.sh tries each. */
 #include "altuliscia.h"
 
 uint64_t places(const uint8_t *m, const double *d, const float *g, uint64_t w, double x, float f, uint8_t *a, double *home);
 uint64_t tuned_places(const uint8_t *m, const double *d, const float *g, uint64_t w, double x, float f, uint8_t *a, double *home);
+uint64_t vote_places(const uint8_t *m, double *d, const float *g, uint64_t *n);
 
 uint64_t places(const uint8_t *m, const double *d, const float *g, uint64_t w, double x, float f, uint8_t *a, double *home) {
     uint64_t sum = g ? altuliscia_bits(x + f) : 0;
@@ -38,4 +40,12 @@ uint64_t tuned_places(const uint8_t *m, const double *d, const float *g, uint64_
     sum += altuliscia_train_nu_tuned(2, L9, m, x, x, 0, 10, T4, NULL, home, R3);
     sum += altuliscia_train_one_class_tuned(2, L10, x, x, 0, 10, T5, NULL, home, R4);
     return sum + r->result.refusal + s->refusal + w + (t->floor > 0);
+}
+
+uint64_t vote_places(const uint8_t *m, double *d, const float *g, uint64_t *n) {
+    altuliscia_election election, *e = &election;
+    altuliscia_result result, *s = &result;
+    uint64_t sum = m && d && g && n && s ? 1 : 0;
+    sum += altuliscia_vote(2, L11, L12, N1, L13, N2, E1);
+    return sum + e->refusal;
 }

@@ -42,6 +42,14 @@ such a pair, and a smaller floor takes longer steps along it:
     [[50], [1]]
 
 Where a weight came from: altuliscia_trail has the steps that a sample went through, and find_pair is one step by itself.
+
+Several languages: for each two of 2 to 12 languages there is a training, and each votes for one of its two. Here one caption of each of
+three languages is trained on, and two others are sorted, by their kernel values with the three:
+
+    >>> fits = [altuliscia.fit_c([[1, 0], [0, 1]], [1, 0]) for _ in altuliscia.pairs(3)]
+    >>> homes, rhos = [fit.home for fit in fits], [fit.rho for fit in fits]
+    >>> altuliscia.votes_of_rows(3, homes, [[0, 1], [0, 2], [1, 2]], rhos, [[0.25, 0.75, 0.5], [0.5, 0.5, 0.75]])
+    [Votes(winner=2, votes=[0, 2, 1], ties=[2]), Votes(winner=3, votes=[1, 0, 2], ties=[3])]
 """
 import ctypes
 import numbers
@@ -50,19 +58,22 @@ import os
 import struct
 from array import array
 from collections import namedtuple
-from itertools import compress
+from itertools import combinations, compress
 
-__version__ = "1.4.0"
+__version__ = "1.5.0"
 
 MOST_SAMPLES = 512
 MOST_PASSES = 10_000_000
 SUPPORT_LIMIT = 100 * 2.0 ** -52  # a weight counts as support where its magnitude is above this
+FEWEST_LANGUAGES = 2
+MOST_LANGUAGES = 12
 USUAL_FLOOR = 1e-10  # stands for a curvature that isn't above 0, as in linfa-svm; LIBSVM has 1e-12
 
 # What is known of an answer, and its room: the tuned functions answer sixteen words.
 _ANSWER = struct.Struct("<QQdQddQQQ")
 _ANSWER_BYTES = 128
 _PAIR = struct.Struct("<dd")
+_ELECTION = struct.Struct("<QQQ")
 
 # The words of include/altuliscia.h.
 _SENTENCES = {
@@ -240,6 +251,110 @@ def find_pair(i, j, entry, agree):
     return _PAIR.unpack(pair.raw)
 
 
+class NoVotes(ValueError):
+    """Votes that were refused, by numbers of their own: 1 is of languages, 2 of a list's length or of a pair whose coefficients and kernel
+    values aren't as many. `number` is that, `index` the place of that pair, counted from 0, else 0."""
+
+    def __init__(self, number, index, told=None):
+        self.number = number
+        self.index = index
+        self.sentence = told or _NO_VOTES.get(number, "This refusal is newer than this file: look it up in altuliscia.h.")
+        super().__init__(f"refusal {number}: {self.sentence}")
+
+
+_NO_VOTES = {
+    1: "The number of languages is below 2 or above 12: lend 2 to 12 languages.",
+    2: "A list has the wrong length: lend coefficients, as many kernel values and a rho for each pair.",
+}
+
+Votes = namedtuple("Votes", "winner votes ties")
+Votes.__doc__ = """The votes on a caption. Languages are numbered from 1 on: `winner` is the number of the language with the most votes, of equals
+the lowest; `votes` has the votes of each language, that of language 1 first; `ties` the numbers of those that share the most."""
+
+
+def pairs(languages):
+    """The pairs of so many languages in their order: (1, 2), (1, 3) and so on, then (2, 3) and so on.
+
+    >>> pairs(3)
+    [(1, 2), (1, 3), (2, 3)]
+    """
+    return list(combinations(range(1, operator.index(languages) + 1), 2))
+
+
+def votes(languages, coefficients, values, rhos):
+    """Which of 2 to 12 languages a caption is in, by the library's own sums and count (docs/RULE.md, 'Several languages').
+
+    coefficients   for each pair, in the order of pairs(languages), the weights of its training: `home` of a fit whose positive label is
+                   the first of the two
+    values         for each pair the caption's kernel values with its samples, as many
+    rhos           for each pair the rho of its training
+
+    A pair's sum is formed in the order of its coefficients, also over those that are 0. Where the sum less rho is 0 or above, the pair
+    votes for its first language, else, and where it is NaN, for its second. No number is refused. What is, is told by NoVotes.
+
+    >>> votes(3, [[0.5, -0.5], [1.0], []], [[1, 1], [0.5], []], [0, 1, float("nan")])
+    Votes(winner=3, votes=[1, 0, 2], ties=[3])
+    """
+    panel = _Panel(languages, coefficients, rhos)
+    return panel.votes([_doubles(given) for given in values])
+
+
+def votes_of_rows(languages, coefficients, samples, rhos, rows):
+    """The votes on many captions, a list with one for each row. A row has the kernel values of one caption with every training sample, of
+    all languages; `samples` has for each pair the numbers of its samples, counted from 0 in a row, in the order of its coefficients. A
+    matrix of numpy is a list of rows, too. For the rest see votes."""
+    panel = _Panel(languages, coefficients, rhos)
+    places = [[_place(number) for number in given] for given in samples]
+    largest = max((place for given in places for place in given), default=-1)
+    found = []
+    for row in rows:
+        if not hasattr(row, "__len__"):
+            raise TypeError("a list of rows is needed, each with the kernel values of one caption")
+        values = array("d", _doubles(row))
+        if len(values) <= largest:
+            raise ValueError(f"a row has {len(values)} kernel values, but a pair has sample {largest}")
+        found.append(panel.votes([array("d", [values[place] for place in given]).tobytes() for given in places]))
+    return found
+
+
+class _Panel:
+    """What is the same for every caption."""
+
+    def __init__(self, languages, coefficients, rhos):
+        # What doesn't fit 64 bits is lent as 0, which is refused as it would be.
+        self.languages = operator.index(languages)
+        self.languages = self.languages if 0 <= self.languages < 1 << 64 else 0
+        lists = [_doubles(given) for given in coefficients]
+        self.held = [len(given) // 8 for given in lists]
+        self.coefficients = b"".join(lists)
+        self.rhos = _doubles(rhos)
+
+    def votes(self, values):
+        counts = self.held, [len(given) // 8 for given in values]
+        lists = (self.coefficients, b"".join(values), *(struct.pack(f"<{len(c)}Q", *c) for c in counts), self.rhos)
+        # Of more languages than may be no list is looked at.
+        room = 8 * min(self.languages, MOST_LANGUAGES)
+        votes, answer = ctypes.create_string_buffer(room), ctypes.create_string_buffer(_ELECTION.size)
+        function = _library().altuliscia_votes
+        function.restype = ctypes.c_uint64
+        written = (votes, ctypes.c_size_t(room), answer, ctypes.c_size_t(_ELECTION.size))
+        refusal = function(ctypes.c_uint64(self.languages), *_slices(lists), *written)
+        _, index, winner = _ELECTION.unpack(answer.raw)
+        if refusal:
+            raise _no_votes(refusal, index, self.languages * (self.languages - 1) // 2, *counts)
+        told = list(struct.unpack(f"<{self.languages}Q", votes.raw))
+        return Votes(winner, told, [k for k, count in enumerate(told, 1) if count == told[winner - 1]])
+
+
+def _no_votes(number, index, count, held, valued):
+    """Refusal 2 is of a pair exactly where there are two counts for each of that many pairs, which is judged before, and the pair's two
+    differ: lengths are judged after."""
+    if number == 2 and len(held) == len(valued) == count and held[index] != valued[index]:
+        return NoVotes(number, index, f"Pair {index}, counted from 0, has {held[index]} coefficients and {valued[index]} kernel values: lend "
+                                      "as many of both.")
+    return NoVotes(number, index)
+
+
 def _without(gone, n, lent, nu_rule, eps, shrinking, budget, late):
     """As the general fit, without the samples in `gone`."""
     marks = bytes(k in gone for k in range(n))
@@ -276,6 +391,14 @@ def _sample(number):
         except TypeError:
             pass
     raise TypeError(f"sample numbers are wanted as retired, not {number!r:.40}")
+
+
+def _place(number):
+    """The place of a sample in a row."""
+    place = operator.index(number)
+    if place < 0:
+        raise ValueError(f"there is no sample {place}: they are counted from 0")
+    return place
 
 
 def _flag(on):

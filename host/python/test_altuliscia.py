@@ -4,13 +4,14 @@ import math
 import os
 import random
 import re
+import sys
 import unittest
 from array import array
 from itertools import takewhile
 from unittest import mock
 
 import altuliscia
-from altuliscia import Before, Fit, Refusal, find_pair, fit_c, fit_general, fit_nu, fit_one_class
+from altuliscia import Before, Fit, NoVotes, Refusal, Votes, find_pair, fit_c, fit_general, fit_nu, fit_one_class, pairs, votes, votes_of_rows
 
 ROOT = os.path.join(os.path.dirname(os.path.abspath(__file__)), "..", "..")
 IDENTITY = [[1, 0], [0, 1]]
@@ -587,6 +588,173 @@ class Pairs(unittest.TestCase):
         self.assertEqual(str(caught.exception), "a double is needed, not 'x'")
         with self.assertRaises(ValueError):
             find_pair((0.0, 1.0, -1.0), (0, 1, -1, 1), 0.0, False)
+
+
+def counted(languages, coefficients, values, rhos):
+    """The rule once more: winner, votes and ties."""
+    found = [0] * languages
+    for (first, second), weights, kernel, rho in zip(pairs(languages), coefficients, values, rhos):
+        total = 0.0
+        for weight, value in zip(weights, kernel):
+            total += weight * value
+        found[(first if total - rho >= 0 else second) - 1] += 1
+    ties = [k for k, count in enumerate(found, 1) if count == max(found)]
+    return ties[0], found, ties
+
+
+class Voted(unittest.TestCase):
+    """Votes of several languages."""
+
+    def drawn(self):
+        """Panels of drawn numbers, of 2 to 12 languages: how many, coefficients, values and rhos."""
+        draw = random.Random(7)
+        strange = (math.nan, math.inf, -math.inf, -0.0, 5e-324, 1e308)
+
+        def number():
+            return draw.choice(strange) if draw.random() < 0.05 else draw.choice((0.0, draw.randint(-400, 400) / 32))
+
+        for _ in range(300):
+            languages = draw.randint(2, 12)
+            counts = [draw.randint(0, 6) for _ in pairs(languages)]
+            lists = [[[number() for _ in range(count)] for count in counts] for _ in range(2)]
+            yield languages, *lists, [number() for _ in counts]
+
+    def test_drawn(self):
+        ties = 0
+        for panel in self.drawn():
+            found = votes(*panel)
+            self.assertEqual(tuple(found), counted(*panel))
+            self.assertEqual(sum(found.votes), len(pairs(panel[0])))
+            ties += len(found.ties) > 1
+        self.assertGreater(ties, 30)
+
+    def test_pairs(self):
+        self.assertEqual(pairs(4), [(1, 2), (1, 3), (1, 4), (2, 3), (2, 4), (3, 4)])
+        self.assertEqual([len(pairs(k)) for k in (0, 1, 2, 12)], [0, 0, 1, 66])
+
+    def test_the_page(self):
+        part = read("docs/BYTES.md").split("\n## The votes of pairs\n")[1].split("\n## ")[0]
+
+        def shown(name):
+            found = re.search(rf"^    {name:<21}(.*)$", part, re.MULTILINE).group(1)
+            return bytes(int(word, 16) for word in found.split())
+
+        lists = [array("d", shown(name)) for name in ("coefficients", "values")]
+        counts = array("Q", shown("coefficient_counts"))
+        starts = [sum(counts[:k]) for k in range(len(counts) + 1)]
+        coefficients, values = ([given[a:b] for a, b in zip(starts, starts[1:])] for given in lists)
+        found = votes(3, coefficients, values, shown("rhos"))
+        self.assertEqual((found.votes, found.winner), (list(array("Q", shown("votes"))), array("Q", shown("answer"))[2]))
+        values[1] = [0.5, 0.5]
+        with self.assertRaises(NoVotes) as caught:
+            votes(3, coefficients, values, shown("rhos"))
+        number, index = caught.exception.number, caught.exception.index
+        self.assertEqual(altuliscia._ELECTION.pack(number, index, 0), shown("refused"))
+
+    def test_edges(self):
+        below = 0.49999999999999994
+        for weight, value, rho, winner in (
+            (1, 0.5, 0.5, 1), (1, below, 0.5, 2), (0, 1, 0, 1), (-0.0, 1, 0, 1), (1, 1, math.nan, 2), (math.nan, 1, 0, 2),
+            (0, math.inf, -1, 2), (1, math.inf, math.inf, 2), (1, math.inf, 0, 1), (1, 1, -math.inf, 1),
+        ):
+            self.assertEqual(votes(2, [[weight]], [[value]], [rho]).winner, winner)
+        # The order of a sum.
+        ones = [[1, 1, 1]]
+        self.assertEqual(votes(2, [[1e16, 1, -1e16]], ones, [0.5]).winner, 2)
+        self.assertEqual(votes(2, [[1e16, -1e16, 1]], ones, [0.5]).winner, 1)
+        # Each of three beats the next.
+        self.assertEqual(votes(3, [[]] * 3, [[]] * 3, [-1, 1, -1]), Votes(1, [1, 1, 1], [1, 2, 3]))
+
+    def test_rows(self):
+        for languages, coefficients, values, rhos in self.drawn():
+            # Every pair's values in one row, turned round, with one more before them.
+            row, samples = [math.nan], []
+            for given in reversed(values):
+                samples.append(range(len(row), len(row) + len(given)))
+                row += given
+            samples.reverse()
+            found = votes_of_rows(languages, coefficients, samples, rhos, [row, tuple(row), array("d", row), array("d", row).tobytes()])
+            self.assertEqual(found, [votes(languages, coefficients, values, rhos)] * 4)
+        self.assertEqual(votes_of_rows(2, [[1]], [[0]], [0], []), [])
+        self.assertEqual(votes_of_rows(2, [[]], [[]], [-1], [[], [1]]), [Votes(1, [1, 0], [1])] * 2)
+
+    def test_captions(self):
+        """Three languages, of which one caption each was trained on."""
+        fits = [fit_c(IDENTITY, [1, 0]) for _ in pairs(3)]
+        homes, rhos = [fit.home for fit in fits], [fit.rho for fit in fits]
+        rows = [[1, 0, 0], [0, 1, 0], [0, 0, 1], [0.5, 0.5, 0.5]]
+        samples = [[first - 1, second - 1] for first, second in pairs(3)]
+        found = votes_of_rows(3, homes, samples, rhos, rows)
+        self.assertEqual([one.winner for one in found], [1, 2, 3, 1])
+        self.assertEqual(found[3].votes, [2, 1, 0])
+
+    def test_numpy(self):
+        try:
+            import numpy
+        except ImportError:
+            print("NOT RUN: votes on arrays of numpy; they need numpy (Debian's package python3-numpy)", file=sys.stderr)
+            return
+        homes, rhos = numpy.array([[1.0, -1.0]] * 3), numpy.zeros(3)
+        rows = numpy.array([[1, 0, 0], [0, 1, 0], [0, 0, 1], [0.5, 0.5, 0.5]])
+        samples = numpy.array([[0, 1], [0, 2], [1, 2]])
+        expected = votes_of_rows(3, homes.tolist(), samples.tolist(), rhos.tolist(), rows.tolist())
+        self.assertEqual(votes_of_rows(numpy.int64(3), homes, samples, rhos, rows), expected)
+        # Rows that don't stand one after the other.
+        self.assertEqual(votes_of_rows(3, homes, samples, rhos, numpy.asfortranarray(rows)), expected)
+        self.assertEqual(votes_of_rows(3, homes, samples, rhos, numpy.repeat(rows, 2, axis=1)[:, ::2]), expected)
+        self.assertEqual(votes(3, homes, rows[1][samples], rhos), expected[1])
+        with self.assertRaises(TypeError):
+            votes_of_rows(3, homes, samples, rhos, rows.astype("float32"))
+
+    def refused(self, number, index, told, *given, call=votes):
+        with self.assertRaises(NoVotes) as caught:
+            call(*given)
+        self.assertEqual((caught.exception.number, caught.exception.index), (number, index))
+        self.assertEqual(str(caught.exception), f"refusal {number}: {told}")
+
+    def test_refused(self):
+        three = ([[1], [1, 2], []], [[1], [1, 2], []], [0, 0, 0])
+        for languages in (-1, 0, 1, 13, 1 << 64, (1 << 64) + 3):
+            self.refused(1, 0, "The number of languages is below 2 or above 12: lend 2 to 12 languages.", languages, *three)
+        pair = "Pair {}, counted from 0, has {} coefficients and {} kernel values: lend as many of both."
+        self.refused(2, 1, pair.format(1, 2, 1), 3, three[0], [[1], [1], [1]], three[2])
+        self.refused(2, 0, pair.format(0, 1, 0), 3, three[0], [[], [1], [1]], three[2])
+        length = "A list has the wrong length: lend coefficients, as many kernel values and a rho for each pair."
+        self.refused(2, 0, length, 3, three[0][:2], three[1], three[2])
+        self.refused(2, 0, length, 3, three[0], three[1][1:], three[2])
+        self.refused(2, 0, length, 2, *three)
+        self.refused(2, 0, length, 3, *three[:2], [0, 0])
+        self.refused(2, 0, length, 3, *three[:2], [0] * 4)
+        self.refused(2, 0, length, 3, [b"\0" * 9, [], []], [[1], [], []], three[2])
+        # Of rows: as many samples as coefficients.
+        rows = ([[0], [0], []], three[2], [[1, 2]])
+        self.refused(2, 1, pair.format(1, 2, 1), 3, three[0], *rows, call=votes_of_rows)
+        self.assertIsInstance(NoVotes(1, 0), ValueError)
+        self.assertIn("newer than this file", str(NoVotes(3, 0)))
+
+    def test_no_numbers(self):
+        good = ([[1]], [[0]], [0])
+        for rows, kind, told in (
+            ([1.0], TypeError, "a list of rows is needed, each with the kernel values of one caption"),
+            ([["x"]], TypeError, "must be real number, not str"),
+            ([[]], ValueError, "a row has 0 kernel values, but a pair has sample 0"),
+        ):
+            with self.assertRaises(kind) as caught:
+                votes_of_rows(2, *good, rows)
+            self.assertEqual(str(caught.exception), told)
+        with self.assertRaises(ValueError) as caught:
+            votes_of_rows(2, [[1]], [[-1]], [0], [[1]])
+        self.assertEqual(str(caught.exception), "there is no sample -1: they are counted from 0")
+        for given in (("2", [[1]], [[1]], [0]), (2.0, [[1]], [[1]], [0]), (2, [["x"]], [[1]], [0]), (2, [[1]], [[1]], ["x"]), (2, [1], [1], [0])):
+            with self.assertRaises(TypeError):
+                votes(*given)
+        with self.assertRaises(TypeError):
+            votes_of_rows(2, [[1]], [[0.0]], [0], [[1]])
+
+    def test_constants_are_the_headers(self):
+        header = read("include/altuliscia.h")
+        for name in ("FEWEST_LANGUAGES", "MOST_LANGUAGES"):
+            self.assertIn(f"#define ALTULISCIA_{name} {getattr(altuliscia, name)}\n", header)
 
 
 def figures(name):

@@ -35,10 +35,13 @@ use Rattle.altuliscia.proofs.altuliscia_one_class.Reads as one-class-re
 use Rattle.altuliscia.proofs.altuliscia_one_class_tuned.{signature as one-class-tuned-signature}
 use Rattle.altuliscia.proofs.altuliscia_one_class_tuned.Kinds as one-class-tuned-kinds
 use Rattle.altuliscia.proofs.altuliscia_one_class_tuned.Reads as one-class-tuned-reads
-use Rattle.altuliscia.specs.Functions.{PairHanded, pairHanded}
+use Rattle.altuliscia.specs.Functions.{PairHanded, pairHanded, VotesHanded, votesHanded}
 use Rattle.altuliscia.proofs.altuliscia_pair.{signature as pair-signature}
 use Rattle.altuliscia.proofs.altuliscia_pair.Kinds as pair-kinds
 use Rattle.altuliscia.proofs.altuliscia_pair.Reads as pair-reads
+use Rattle.altuliscia.proofs.altuliscia_votes.{signature as votes-signature}
+use Rattle.altuliscia.proofs.altuliscia_votes.Kinds as votes-kinds
+use Rattle.altuliscia.proofs.altuliscia_votes.Reads as votes-reads
 use Rattle.altuliscia.proofs.altuliscia_version.{signature as version-signature}
 use Rattle.altuliscia.proofs.altuliscia_version.Kinds as version-kinds
 use Rattle.altuliscia.proofs.altuliscia_version.Reads as version-reads
@@ -113,6 +116,13 @@ pair-left κs r s = pairHanded r (now (s .1 .1 .1 .1 .1 .1 .1 .1 .1 .1 .0))
 pub pair-once : (κs : Lfts 1) (a : ArgsD pair-signature κs) (r r' : ResD pair-signature κs) (s s' : AtExit (endedOf 1 pair-kinds.ps pair-kinds.r) κs)
     → pair-reads.Post κs a r s → pair-reads.Post κs a r' s' → _≡_ {A = PairHanded} (pair-left κs r s) (pair-left κs r' s')
 pair-once κs a r r' s s' p q = p ∙ sym q
+
+abbrev votes-left : (κs : Lfts 7) → ResD votes-signature κs → AtExit (endedOf 7 votes-kinds.ps votes-kinds.r) κs → VotesHanded
+votes-left κs r s = votesHanded r (now (s .1 .1 .1 .1 .1 .1 .0)) (now (s .1 .1 .1 .1 .1 .1 .1 .0))
+
+pub votes-once : (κs : Lfts 7) (a : ArgsD votes-signature κs) (r r' : ResD votes-signature κs) (s s' : AtExit (endedOf 7 votes-kinds.ps votes-kinds.r) κs)
+    → votes-reads.Post κs a r s → votes-reads.Post κs a r' s' → _≡_ {A = VotesHanded} (votes-left κs r s) (votes-left κs r' s')
+votes-once κs a r r' s s' p q = p ∙ sym q
 
 pub version-once : (κs : Lfts 0) (a : ArgsD version-signature κs) (r r' : ResD version-signature κs) (s s' : AtExit (endedOf 0 version-kinds.ps version-kinds.r) κs)
     → version-reads.Post κs a r s → version-reads.Post κs a r' s' → _≡_ {A = ℕ} r r'

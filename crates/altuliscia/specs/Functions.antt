@@ -9,6 +9,8 @@ use Rattle.classification.specs.Entries.{generalTunedSized, fitCTunedSized, fit
 use Rattle.finder.specs.Found.{foundPair, withPair}
 use Rattle.retired.specs.Entry.{retiredTunedSized}
 use Rattle.hosted.specs.Hosted.{isOn, asFloat, tuningKnown, tuningOf, floatsOf, byteSizes, generalInputs, room, Handed, delivered, hostedBy}
+use Rattle.votes.specs.Votes.{Panel}
+use Rattle.votes.specs.Entry.{languagesGood, Voted, votedOn, electionTold}
 use Rattle.tuning.specs.Tuning.{plainTuning}
 use Rattle.tuning.specs.declared.Tuning.{Tuning}
 
@@ -86,6 +88,22 @@ pairHost ai bi aj bj gi gj di dj r agree out =
     (pairHanded 2 out)
     (pairHanded 0 (withPair out (foundPair (weight (asFloat ai) (asFloat bi)) (weight (asFloat aj) (asFloat bj)) (asFloat gi) (asFloat gj) (asFloat di) (asFloat dj) (asFloat r) (isOn agree))))
 
--- 10000·major + 100·minor + patch: 1.4.0
+-- what the host of the votes gets back: the result, the votes and the answer
+pub record VotesHanded : Type 0 where
+  pub code : ℕ
+  pub votes : List ℕ
+  pub answer : List ℕ
+
+abbrev pub votesHanded : ℕ → List ℕ → List ℕ → VotesHanded
+votesHanded q v an = record { code = q; votes = v; answer = an }
+
+abbrev pub votesTold : Voted → List ℕ → VotesHanded
+votesTold w an = votesHanded (w .out .number) (w .votes) (electionTold (w .out) an)
+
+-- k languages, what is lent for their pairs; votes, answer. An answer that is too short is 2, behind 1
+unfoldable pub votesHost : ℕ → Panel → List ℕ → List ℕ → VotesHanded
+votesHost k l v an = cond (ltb (length an) 24) (votesHanded (cond (languagesGood k) 2 1) v an) (votesTold (votedOn k l v) an)
+
+-- 10000·major + 100·minor + patch: 1.5.0
 abbrev pub version : ℕ
-version = 10400
+version = 10500

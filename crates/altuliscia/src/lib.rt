@@ -2,8 +2,9 @@
 ghost use mathlib.Core.Path.{_≡_};
 ghost use Prim.Native.Nat.{ℕ};
 ghost use Rattle.hosted.specs.Hosted.{Handed, handed};
+ghost use Rattle.votes.specs.Votes.{panel};
 ghost use Rattle.wide.specs.Wide.{generalTunedHost, cTunedHost, nuTunedHost, oneClassTunedHost};
-ghost use Rattle.altuliscia.specs.Functions.{generalHost, retiredHost, cHost, nuHost, oneClassHost, PairHanded, pairHanded, pairHost, version};
+ghost use Rattle.altuliscia.specs.Functions.{generalHost, retiredHost, cHost, nuHost, oneClassHost, PairHanded, pairHanded, pairHost, VotesHanded, votesHanded, votesHost, version};
 
 // Labels l, ceilings c, start alphas a and linear term p.
 #[no_mangle]
@@ -366,10 +367,33 @@ pub extern "C" fn altuliscia_pair(
     0
 }
 
+// Languages from pairs of trainings: coefficients c and kernel values u of all pairs, how many of each a pair has, rhos.
+#[no_mangle]
+pub extern "C" fn altuliscia_votes(
+    k: usize,
+    c: &[u8],
+    u: &[u8],
+    held: &[u8],
+    valued: &[u8],
+    rhos: &[u8],
+    v: &mut [u8],
+    answer: &mut [u8],
+) -> u64
+    ensures { λ q. ⌜ _≡_ {A = VotesHanded} (votesHanded q (now (v .exit)) (now (answer .exit)))
+        (votesHost k (panel (now (c .entry)) (now (u .entry)) (now (held .entry)) (now (valued .entry)) (now (rhos .entry))) (now (v .entry)) (now (answer .entry))) ⌝ }
+{
+    if answer.len() < 24 {
+        return votes::short_answer(k);
+    }
+    let e = votes::vote(k, c, u, held, valued, rhos, v);
+    votes::tell(answer, e);
+    e.number
+}
+
 // Which version this is.
 #[no_mangle]
 pub extern "C" fn altuliscia_version() -> u64
     ensures { λ k. ⌜ _≡_ {A = ℕ} k version ⌝ }
 {
-    10400
+    10500
 }

@@ -8,3 +8,4 @@ pub mod Threshold
 pub mod Trail
 pub mod Pair
 pub mod Tuned
+pub mod Votes

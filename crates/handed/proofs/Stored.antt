@@ -9,6 +9,7 @@ use lib.Ieee.{Float, nan, binary64, toBits}
 use lib.ListN.{length, getD}
 use Rattle.hosted.specs.Hosted.{storedTo, wordsTo, zeroedTo, padded}
 use Rattle.promises.specs.Leaves.{Beyond}
+use Rattle.votes.specs.Entry.{votesLaid}
 use Rattle.wire.specs.Wire.{digits, withDigits}
 use Rattle.wire.proofs.Back.{length-withDigits, withDigits-other, digits-back}
 
@@ -70,6 +71,15 @@ module _ (w b : List ℕ) where
   words-beyond k =
       let v : ℕ → ℕ = λ i. getD w i 0 in
       record { long = words-length (wordsTo w b) 0 (λ i. 8 * i) eights v (λ i. refl) k; at = λ j h. words-other (wordsTo w b) 0 (λ i. 8 * i) eights v (λ i. refl) k j (inr (omega arith)) }
+
+module _ (v : ℕ → ℕ) (b : List ℕ) where
+  pub vote-at : (k s : ℕ) → 8 * k ≤ length b → s < k → digits (votesLaid v b k) (8 * s) 8 ≡ v s % 256 ^ 8
+  unfolding votesLaid
+  vote-at k s l h = words-at (votesLaid v b) 0 (λ k. 8 * k) eights v (λ k. refl) k s (omega arith) h
+
+  pub votes-long : (k : ℕ) → length (votesLaid v b k) ≡ length b
+  unfolding votesLaid
+  votes-long k = words-length (votesLaid v b) 0 (λ k. 8 * k) eights v (λ k. refl) k
 
 -- ---- the seven words behind an answer of nine
 

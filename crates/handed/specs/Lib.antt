@@ -2,3 +2,4 @@ pub mod Gives
 pub mod HandsBack
 pub mod Trains
 pub mod Trail
+pub mod Elects

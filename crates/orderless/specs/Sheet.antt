@@ -1,5 +1,5 @@
 -- What a training without an order table works on (the rule, section 'Without an order table'). Of each sample it keeps F, the label times the gradient, in copies that say
--- by themselves what the sample may do: nobody asks for a label or a weight when a pair is chosen.
+-- by themselves what the sample may do: nobody asks for a weight when a pair is chosen, and for a label only with the nu rule.
 use Prim.Native.Nat.{ℕ, _+_, _*_}
 use mathlib.Core.Bool.{Bool, true, cond}
 use mathlib.Core.List.{List}

@@ -3,9 +3,12 @@
 
 use crate::functions::{
     altuliscia_c_tuned, altuliscia_general_tuned, altuliscia_nu_tuned, altuliscia_one_class_tuned,
-    altuliscia_pair, altuliscia_retired,
+    altuliscia_pair, altuliscia_retired, altuliscia_votes,
 };
-use crate::{Answer, Before, ExitReason, General, OneClass, Problem, Refusal, Tuned, MOST_SAMPLES};
+use crate::{
+    Answer, Before, ExitReason, General, OneClass, Panel, Problem, Refusal, Tuned, MOST_LANGUAGES,
+    MOST_SAMPLES,
+};
 
 /// The bytes of an answer: of the tuned functions sixteen words, of which nine are known; that of retired samples ends with these.
 const ANSWER: usize = 128;
@@ -58,14 +61,14 @@ fn tuning(o: &Tuned) -> [f64; 1] {
     [o.floor]
 }
 
-/// The length in bytes of a list of doubles. No list is so long that this wraps.
-fn bytes(list: &[f64]) -> usize {
+/// The length in bytes of a list of doubles, or of numbers. No list is so long that this wraps.
+fn bytes<T>(list: &[T]) -> usize {
     std::mem::size_of_val(list)
 }
 
 // In each call every pointer comes from a slice that lives through it, with that slice's length in bytes beside it; the lists that
-// are written are borrowed for that alone. A double is read and written by its eight bytes, lowest first, which is how x86-64 keeps
-// it, and every pattern of eight bytes is a double. A bool is a byte, 0 or 1.
+// are written are borrowed for that alone. A double or a number is read and written by its eight bytes, lowest first, which is how
+// x86-64 keeps it, and every pattern of eight bytes is one. A bool is a byte, 0 or 1.
 
 #[rustfmt::skip]
 pub(crate) fn general(g: &General, o: &Tuned, room: &mut Room) -> u64 {
@@ -141,6 +144,22 @@ pub(crate) fn pair(i: &Before, j: &Before, entry: f64, agree: bool) -> (f64, f64
             entry.to_bits(), u8::from(agree), left.as_mut_ptr().cast(), room);
     }
     (left[0], left[1])
+}
+
+/// What a call of the votes leaves: the result, the refusal's index, the winner, and the votes in the first places. Of more languages than may be
+/// no list is looked at.
+#[rustfmt::skip]
+pub(crate) fn votes(p: &Panel) -> (u64, u64, u64, [u64; MOST_LANGUAGES]) {
+    let mut votes = [0; MOST_LANGUAGES];
+    let mut answer = [0; 3];
+    let (lv, la) = (bytes(&votes[..p.languages.min(MOST_LANGUAGES)]), bytes(&answer));
+    let result = unsafe {
+        altuliscia_votes(p.languages as u64, p.coefficients.as_ptr().cast(), bytes(p.coefficients), p.values.as_ptr().cast(), bytes(p.values),
+            p.coefficient_counts.as_ptr().cast(), bytes(p.coefficient_counts), p.value_counts.as_ptr().cast(), bytes(p.value_counts),
+            p.rhos.as_ptr().cast(), bytes(p.rhos), votes.as_mut_ptr().cast(), lv, answer.as_mut_ptr().cast(), la)
+    };
+    let [_, index, winner] = answer;
+    (result, index, winner, votes)
 }
 
 #[cfg(test)]
@@ -299,6 +318,59 @@ mod tests {
             diagonal: f64::from_bits(number(&format!("diagonal_{}", k))),
         };
         assert_eq!(pair(&before("i"), &before("j"), -0.5, false), (0.5, 1.0));
+    }
+
+    /// The bytes that docs/BYTES.md shows in the line of that name, in its part on the votes.
+    fn shown_of_votes(name: &str) -> Vec<u8> {
+        let text = include_str!("../../../docs/BYTES.md");
+        let part = text.split("\n## The votes of pairs\n").nth(1).unwrap();
+        let part = part.split("\n## ").next().unwrap();
+        let start = format!("    {:<21}", name);
+        let line = part.lines().find_map(|l| l.strip_prefix(&start)).unwrap();
+        let byte = |word| u8::from_str_radix(word, 16).unwrap();
+        line.split_whitespace().map(byte).collect()
+    }
+
+    /// The votes that docs/BYTES.md shows, with these counts of kernel values and so many bytes of room: the result, and all that is there
+    /// for votes and answer.
+    #[rustfmt::skip]
+    fn raw_votes(languages: u64, value_counts: &[u8], (lv, la): (usize, usize)) -> (u64, [u8; 40], [u8; 32]) {
+        let (c, v, h, r) = ("coefficients", "values", "coefficient_counts", "rhos");
+        let (c, v, h, r) = (shown_of_votes(c), shown_of_votes(v), shown_of_votes(h), shown_of_votes(r));
+        let (mut votes, mut answer) = ([7; 40], [7; 32]);
+        let result = unsafe {
+            altuliscia_votes(languages, c.as_ptr(), c.len(), v.as_ptr(), v.len(), h.as_ptr(), h.len(),
+                value_counts.as_ptr(), value_counts.len(), r.as_ptr(), r.len(), votes.as_mut_ptr(), lv, answer.as_mut_ptr(), la)
+        };
+        (result, votes, answer)
+    }
+
+    #[test]
+    fn votes_are_what_the_document_shows() {
+        let mut counts = shown_of_votes("value_counts");
+        for room in [24, 25, 32] {
+            let (result, votes, answer) = raw_votes(3, &counts, (24, room));
+            assert_eq!((result, &votes[24..]), (0, &[7; 16][..]));
+            assert_eq!(votes[..24], shown_of_votes("votes"));
+            let behind = [shown_of_votes("answer"), vec![7; 8]].concat();
+            assert_eq!(answer[..], behind);
+        }
+        let untouched = ([7; 40], [7; 32]);
+        for room in [0, 1, 23] {
+            let (result, votes, answer) = raw_votes(3, &counts, (24, room));
+            assert_eq!((result, (votes, answer)), (2, untouched));
+            let (result, votes, answer) = raw_votes(13, &counts, (24, room));
+            assert_eq!((result, (votes, answer)), (1, untouched));
+        }
+        for length in [0, 16, 23, 25, 32] {
+            let (result, votes, answer) = raw_votes(3, &counts, (length, 24));
+            assert_eq!((result, votes, answer[0]), (2, [7; 40], 2));
+        }
+        counts[8] = 2;
+        let (result, votes, answer) = raw_votes(3, &counts, (24, 32));
+        assert_eq!((result, votes), (2, [7; 40]));
+        let behind = [shown_of_votes("refused"), vec![7; 8]].concat();
+        assert_eq!(answer[..], behind);
     }
 
     /// What no list of `bool` and no call of this crate can lead to.

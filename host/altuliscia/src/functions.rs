@@ -41,4 +41,7 @@ extern "C" {
         answer: *mut u8, answer_len: usize) -> u64;
     pub fn altuliscia_pair(weight_i: u64, ceiling_i: u64, weight_j: u64, ceiling_j: u64, gradient_i: u64, gradient_j: u64,
         diagonal_i: u64, diagonal_j: u64, entry: u64, agree: u8, pair: *mut u8, pair_len: usize) -> u64;
+    pub fn altuliscia_votes(languages: u64, coefficients: *const u8, coefficients_len: usize, values: *const u8, values_len: usize,
+        coefficient_counts: *const u8, coefficient_counts_len: usize, value_counts: *const u8, value_counts_len: usize,
+        rhos: *const u8, rhos_len: usize, votes: *mut u8, votes_len: usize, answer: *mut u8, answer_len: usize) -> u64;
 }

@@ -69,6 +69,39 @@
 //! assert_eq!(training.fit_tuned(&tuned)?.iterations, 1);
 //! # Ok::<(), altuliscia::Refusal>(())
 //! ```
+//!
+//! # Several languages
+//!
+//! For two to twelve languages there is a training for each two of them, and [`votes`] counts which language each of these trainings says a
+//! caption is in. Here one caption of each of three languages is trained on:
+//!
+//! ```
+//! use altuliscia::{fit_c, pairs, votes, Options, Panel, Problem};
+//!
+//! let (mut coefficients, mut rhos) = (Vec::new(), Vec::new());
+//! for _ in pairs(3) {
+//!     let problem = Problem { matrix: &[1.0, 0.0, 0.0, 1.0], labels: &[true, false] };
+//!     let answer = fit_c(&problem, 1.0, 1.0, &Options::default())?;
+//!     coefficients.extend(answer.home);
+//!     rhos.push(answer.rho);
+//! }
+//!
+//! // Something new, by its kernel values with the three captions; a pair has those of its two.
+//! let caption = [0.25, 0.75, 0.5];
+//! let values: Vec<f64> = pairs(3).flat_map(|(first, second)| [caption[first - 1], caption[second - 1]]).collect();
+//! let counts = [2; 3];
+//! let panel = Panel {
+//!     languages: 3,
+//!     coefficients: &coefficients,
+//!     values: &values,
+//!     coefficient_counts: &counts,
+//!     value_counts: &counts,
+//!     rhos: &rhos,
+//! };
+//! let found = votes(&panel)?;
+//! assert_eq!((found.winner(), found.counts()), (2, &[0, 2, 1][..]));
+//! # Ok::<(), Box<dyn std::error::Error>>(())
+//! ```
 #![deny(missing_docs, unsafe_code)]
 
 mod call;
@@ -78,11 +111,13 @@ mod refusal;
 mod replay;
 mod trail;
 mod training;
+mod votes;
 
 pub use pair::{find_pair, Before};
 pub use refusal::Refusal;
 pub use trail::{trail, NoTrail, Step, Trail};
 pub use training::Training;
+pub use votes::{pairs, votes, NoVotes, Panel, Votes};
 
 /// The most samples that a problem may have.
 pub const MOST_SAMPLES: usize = 512;
@@ -92,6 +127,10 @@ pub const MOST_PASSES: u64 = 10_000_000;
 pub const SUPPORT_LIMIT: f64 = 2.220446049250313e-14;
 /// The floor of the curvature in `linfa-svm`, and by default; LIBSVM has 1e-12.
 pub const USUAL_FLOOR: f64 = 1e-10;
+/// The fewest languages that are voted on.
+pub const FEWEST_LANGUAGES: usize = 2;
+/// The most languages that are voted on.
+pub const MOST_LANGUAGES: usize = 12;
 /// What a call needs of the stack at the most, in bytes.
 pub const STACK_BYTES: usize = 65_536;
 

@@ -1,5 +1,8 @@
 //! What the documents show is what the files say.
-use altuliscia::{MOST_PASSES, MOST_SAMPLES, STACK_BYTES, SUPPORT_LIMIT, USUAL_FLOOR};
+use altuliscia::{
+    FEWEST_LANGUAGES, MOST_LANGUAGES, MOST_PASSES, MOST_SAMPLES, STACK_BYTES, SUPPORT_LIMIT,
+    USUAL_FLOOR,
+};
 
 #[test]
 fn constants_are_the_headers() {
@@ -14,6 +17,9 @@ fn constants_are_the_headers() {
     assert_eq!(number("ALTULISCIA_MOST_SAMPLES"), MOST_SAMPLES as u64);
     assert_eq!(number("ALTULISCIA_MOST_PASSES"), MOST_PASSES);
     assert_eq!(number("ALTULISCIA_STACK_BYTES"), STACK_BYTES as u64);
+    let languages = ["FEWEST", "MOST"].map(|end| format!("ALTULISCIA_{}_LANGUAGES", end));
+    let languages = languages.map(|name| number(&name) as usize);
+    assert_eq!(languages, [FEWEST_LANGUAGES, MOST_LANGUAGES]);
     let limit: f64 = defined("ALTULISCIA_SUPPORT_LIMIT").parse().unwrap();
     assert_eq!(limit.to_bits(), SUPPORT_LIMIT.to_bits());
     assert_eq!(limit, 100.0 * f64::EPSILON);

@@ -7,7 +7,7 @@ use drawn::lists;
 const THREADS: usize = 8;
 const ROUNDS: usize = 40;
 
-/// What all fits answer, as text: so that NaN equals NaN.
+/// What all fits and a vote answer, as text: so that NaN equals NaN.
 fn all_fits(seed: usize) -> String {
     let n = 5 + seed % 40;
     let l = lists(seed, n);
@@ -28,6 +28,15 @@ fn all_fits(seed: usize) -> String {
     let retired: Vec<bool> = (0..n).map(|k| k % 5 == seed % 5).collect();
     let mut tuned = Tuned::from(options);
     tuned.floor = [1e-10, 1e-12, 1.0][seed % 3];
+    let counts = [n as u64];
+    let panel = Panel {
+        languages: 2,
+        coefficients: &l.linear,
+        values: &l.matrix[..n],
+        coefficient_counts: &counts,
+        value_counts: &counts,
+        rhos: &[0.5],
+    };
     let answers = [
         Training::General(general).fit_tuned(&tuned),
         fit_c(&problem, 2.0, 1.0, &options),
@@ -36,7 +45,7 @@ fn all_fits(seed: usize) -> String {
         fit_retired(&general, &retired, &off),
         fit_c_retired(&problem, 2.0, 1.0, &retired, &off),
     ];
-    format!("{:?}", answers)
+    format!("{:?} {:?}", answers, votes(&panel))
 }
 
 #[test]
@@ -46,7 +55,7 @@ fn eight_threads_answer_as_one_does() {
         .iter()
         .map(|a| a.matches("Ok(").count())
         .sum::<usize>();
-    assert!(accepted > THREADS * 12, "{} accepted", accepted);
+    assert!(accepted > THREADS * 15, "{} accepted", accepted);
     let distinct: std::collections::HashSet<&String> = alone.iter().collect();
     assert_eq!(distinct.len(), alone.len());
     std::thread::scope(|scope| {

@@ -25,46 +25,68 @@ pub struct Figures {
 }
 
 /// A kernel value: whole numbers up to one square root and one division, each rounded once.
-fn value(product: u64, own: u64, other: u64) -> f64 {
+pub(crate) fn value(product: u64, own: u64, other: u64) -> f64 {
     product as f64 / ((own * other) as f64).sqrt()
 }
 
 /// The largest product that is read. The product of two of them is a whole number that a double holds exactly.
-const MOST: u64 = 1 << 26;
+pub(crate) const MOST: u64 = 1 << 26;
+
+/// The lines of a file that aren't comments, each with its number from 1 on.
+pub(crate) struct Lines<'a>(std::iter::Enumerate<std::str::Lines<'a>>);
+
+impl<'a> Lines<'a> {
+    pub fn of(text: &'a str) -> Lines<'a> {
+        Lines(text.lines().enumerate())
+    }
+
+    /// The words behind a name that the next line begins with.
+    pub fn named(&mut self, name: &str) -> Result<(usize, Vec<&'a str>), String> {
+        let (at, line) = self.next().ok_or(format!("'{}' isn't there", name))?;
+        let mut words = line.split_whitespace();
+        match words.next() {
+            Some(word) if word == name => Ok((at, words.collect())),
+            _ => Err(format!("line {}: '{}' should stand here", at, name)),
+        }
+    }
+
+    /// The number behind a name.
+    pub fn number(&mut self, name: &str) -> Result<usize, String> {
+        let (at, words) = self.named(name)?;
+        let number = words.first().and_then(|w| w.parse().ok());
+        number.ok_or(format!("line {}: '{}' stands for a number", at, name))
+    }
+
+    /// The numbers of a caption, none of them above MOST, and none at all where a word is something else.
+    pub fn caption(&mut self) -> Result<(usize, Option<Vec<u64>>), String> {
+        let (at, line) = self.next().ok_or("a caption is missing")?;
+        let words = line.split(' ');
+        let numbers = words.map(|w| w.parse().ok().filter(|x| *x <= MOST));
+        Ok((at, numbers.collect()))
+    }
+}
+
+impl<'a> Iterator for Lines<'a> {
+    type Item = (usize, &'a str);
+
+    fn next(&mut self) -> Option<(usize, &'a str)> {
+        let (k, line) = self.0.find(|(_, line)| !line.starts_with('#'))?;
+        Some((k + 1, line))
+    }
+}
 
 impl Figures {
     /// Reads a file's text. The error names the line.
     pub fn read(text: &str) -> Result<Figures, String> {
-        let mut lines = text
-            .lines()
-            .enumerate()
-            .map(|(k, line)| (k + 1, line))
-            .filter(|(_, line)| !line.starts_with('#'));
-        let mut named = |name: &str| -> Result<(usize, Vec<&str>), String> {
-            let (at, line) = lines.next().ok_or(format!("'{}' isn't there", name))?;
-            let mut words = line.split_whitespace();
-            match words.next() {
-                Some(word) if word == name => Ok((at, words.collect())),
-                _ => Err(format!("line {}: '{}' should stand here", at, name)),
-            }
-        };
-        let package = named("package")?.1.join(" ");
-        let languages = match named("languages")? {
+        let mut lines = Lines::of(text);
+        let package = lines.named("package")?.1.join(" ");
+        let languages = match lines.named("languages")? {
             (_, words) if words.len() == 2 => (words[0].to_string(), words[1].to_string()),
             (at, _) => return Err(format!("line {}: there should be two languages", at)),
         };
-        let mut count = |name: &str| -> Result<usize, String> {
-            let (at, words) = named(name)?;
-            let number = words.first().and_then(|w| w.parse().ok());
-            number.ok_or(format!("line {}: '{}' stands for a number", at, name))
-        };
-        let (train, held) = (count("train")?, count("held")?);
+        let (train, held) = (lines.number("train")?, lines.number("held")?);
         let mut caption = |own_at: usize, products: std::ops::Range<usize>| {
-            let (at, line) = lines.next().ok_or("a caption is missing")?;
-            let numbers: Option<Vec<u64>> = line
-                .split(' ')
-                .map(|w| w.parse().ok().filter(|x| *x <= MOST))
-                .collect();
+            let (at, numbers) = lines.caption()?;
             let numbers = numbers
                 .filter(|list| list.len() == products.end && list[0] <= 1 && list[own_at] > 0);
             let numbers = numbers.ok_or(format!("line {}: not a caption's figures", at))?;
@@ -137,25 +159,25 @@ impl Figures {
     pub fn libsvm_train(&self, n: usize) -> String {
         let matrix = self.matrix(n);
         let rows = self.train[..n].iter().zip(matrix.chunks(n)).enumerate();
-        rows.map(|(k, (caption, row))| line(caption.first, k + 1, row))
+        rows.map(|(k, (caption, row))| line(caption.first.into(), k + 1, row))
             .collect()
     }
 
     /// The held-out captions in the same format, with their kernel values with the first n training captions.
     pub fn libsvm_held(&self, n: usize) -> String {
         let held = self.held.iter().enumerate();
-        held.map(|(k, caption)| line(caption.first, k + 1, &self.values(caption, n)))
+        held.map(|(k, caption)| line(caption.first.into(), k + 1, &self.values(caption, n)))
             .collect()
     }
 }
 
 /// A line of LIBSVM's. A value is written so that reading it gives the same bits.
-fn line(first: bool, serial: usize, values: &[f64]) -> String {
+pub(crate) fn line(label: usize, serial: usize, values: &[f64]) -> String {
     let entries = values.iter().enumerate();
     let entries: String = entries
         .map(|(k, x)| format!(" {}:{:?}", k + 1, x))
         .collect();
-    format!("{} 0:{}{}\n", u8::from(first), serial, entries)
+    format!("{} 0:{}{}\n", label, serial, entries)
 }
 
 #[cfg(test)]

@@ -2,10 +2,16 @@
 #![deny(missing_docs, unsafe_code)]
 
 mod figures;
+mod model;
+mod several;
 mod sorted;
+mod voted;
 
 pub use figures::{Caption, Figures};
+pub use model::Model;
+pub use several::{Several, Text};
 pub use sorted::{decision, fitted, measured, parted, sorted, Sorted};
+pub use voted::voted;
 
 /// The name of a language.
 pub fn language(code: &str) -> &str {

@@ -1,12 +1,16 @@
 //! Trains on captions and says how the held-out ones are sorted. HELP has the commands.
+mod confusions;
+mod languages;
+mod outcomes;
 mod picture;
 mod retired;
 mod table;
 
 use altuliscia::{Options, Refusal};
-use captions::{language, measured, Figures, Sorted};
+use captions::{language, measured, voted, Figures, Several, Sorted};
+use outcomes::Outcomes;
 use std::fs;
-use std::io::Write;
+use std::io::{BufWriter, Write};
 use std::path::Path;
 use std::process::ExitCode;
 
@@ -16,6 +20,17 @@ captions picture FILE       one training (C 10, eps 1e-7, shrinking on) as an SV
 captions retired FILE SERIAL ..
                             trains with all captions, then with those of these serial numbers retired, and compares
 captions libsvm FILE NAME   writes them as NAME.train and NAME.held, in LIBSVM's format for a precomputed kernel
+
+Of several languages:
+
+captions twelve FILE        trains every two of them (C 10, eps 0.001) and says how the held-out captions are sorted
+captions libsvm FILE NAME [N]
+                            writes NAME.train and NAME.held, with the first N training captions of each language
+captions sorted FILE LIST [N]
+                            says how they were sorted by another program: LIST is what `altuliscia sort --votes` tells of NAME.held
+captions confusions FILE LIST [N]
+                            the same as an SVG picture
+captions languages FOLDER   the tables of docs/LANGUAGES.md, from what captions/languages put there
 
 captions/README.md says what the files are.";
 
@@ -29,7 +44,15 @@ fn main() -> ExitCode {
         ["retired", path, ref serials @ ..] if !serials.is_empty() => {
             read(path).and_then(|figures| retired::retired(&figures, serials))
         }
-        ["libsvm", path, name] => read(path).and_then(|figures| libsvm(&figures, name)),
+        ["libsvm", path, name, ref n @ ..] if n.len() < 2 => libsvm(path, name, n.first()),
+        ["twelve", path] => twelve(path).map(|found| found.told()),
+        ["sorted", path, list, ref n @ ..] if n.len() < 2 => {
+            outcomes(path, list, n.first()).map(|found| found.told())
+        }
+        ["confusions", path, list, ref n @ ..] if n.len() < 2 => {
+            outcomes(path, list, n.first()).map(|found| confusions::picture(&found))
+        }
+        ["languages", folder] => languages::tables(folder),
         _ => {
             eprintln!("{}", HELP);
             return ExitCode::from(2);
@@ -48,21 +71,75 @@ fn main() -> ExitCode {
     }
 }
 
+fn text(path: &str) -> Result<String, String> {
+    fs::read_to_string(path).map_err(|e| format!("{}: {}", path, e))
+}
+
 fn read(path: &str) -> Result<Figures, String> {
-    let text = fs::read_to_string(path).map_err(|e| format!("{}: {}", path, e))?;
-    Figures::read(&text).map_err(|e| format!("{}: {}", path, e))
+    Figures::read(&text(path)?).map_err(|e| format!("{}: {}", path, e))
+}
+
+fn several(path: &str) -> Result<Several, String> {
+    Several::read(&text(path)?).map_err(|e| format!("{}: {}", path, e))
+}
+
+/// How many training captions of each language are asked for: all, or as many as a word says.
+fn of_each(s: &Several, word: Option<&&str>) -> Result<usize, String> {
+    let most = s.of_each();
+    word.map_or(Ok(most), |word| {
+        let number = word.parse().ok().filter(|n| (1..=most).contains(n));
+        number.ok_or(format!("'{}': a language has 1 to {}", word, most))
+    })
+}
+
+fn outcomes(path: &str, list: &str, n: Option<&&str>) -> Result<Outcomes, String> {
+    let several = several(path)?;
+    let n = of_each(&several, n)?;
+    Outcomes::read(&several, n, &text(list)?).map_err(|e| format!("{}: {}", list, e))
+}
+
+/// Every two languages trained as `altuliscia train -c 10` does.
+fn twelve(path: &str) -> Result<Outcomes, String> {
+    let several = several(path)?;
+    let options = Options {
+        eps: 0.001,
+        ..Options::default()
+    };
+    let votes = voted(&several, 10.0, &options)?;
+    Outcomes::of(&several, &votes)
+}
+
+fn libsvm(path: &str, name: &str, n: Option<&&str>) -> Result<String, String> {
+    if Several::is_told(&text(path)?) {
+        let s = several(path)?;
+        let n = of_each(&s, n)?;
+        return both(name, s.libsvm_train(n), s.libsvm_held(n));
+    }
+    match n {
+        None => of_pair(&read(path)?, name),
+        Some(_) => Err(format!("{}: two languages, so all are written", path)),
+    }
+}
+
+fn of_pair(f: &Figures, name: &str) -> Result<String, String> {
+    let n = f.train.len();
+    let [train, held] = [f.libsvm_train(n), f.libsvm_held(n)].map(std::iter::once);
+    both(name, train, held)
 }
 
 /// Writes both files or none: each under another name first, and not where something else than a file stands.
-fn libsvm(f: &Figures, name: &str) -> Result<String, String> {
-    let n = f.train.len();
+fn both(
+    name: &str,
+    train: impl Iterator<Item = String>,
+    held: impl Iterator<Item = String>,
+) -> Result<String, String> {
     let paths = ["train", "held"].map(|end| format!("{}.{}", name, end));
     if let Some(taken) = paths.iter().find(|path| Path::new(path).is_dir()) {
         return Err(format!("nothing was written: {} is a folder", taken));
     }
     let parts = [0, 1].map(|k| format!("{}.part", paths[k]));
-    let done = fs::write(&parts[0], f.libsvm_train(n))
-        .and_then(|()| fs::write(&parts[1], f.libsvm_held(n)))
+    let done = written(&parts[0], train)
+        .and_then(|()| written(&parts[1], held))
         .and_then(|()| fs::rename(&parts[0], &paths[0]))
         .and_then(|()| fs::rename(&parts[1], &paths[1]));
     for part in parts {
@@ -70,6 +147,12 @@ fn libsvm(f: &Figures, name: &str) -> Result<String, String> {
     }
     done.map(|()| String::new())
         .map_err(|e| format!("{} and {}: {}", paths[0], paths[1], e))
+}
+
+fn written(path: &str, mut texts: impl Iterator<Item = String>) -> std::io::Result<()> {
+    let mut file = BufWriter::new(fs::File::create(path)?);
+    texts.try_for_each(|text| file.write_all(text.as_bytes()))?;
+    file.flush()
 }
 
 /// One training, and how it sorts.
@@ -175,7 +258,7 @@ mod tests {
         let name = f.join("x").to_str().unwrap().to_string();
         for taken in ["x.train", "x.held"] {
             fs::create_dir_all(f.join(taken).join("full")).unwrap();
-            let told = libsvm(&figures("held 0\n"), &name).unwrap_err();
+            let told = of_pair(&figures("held 0\n"), &name).unwrap_err();
             assert!(told.starts_with("nothing was written: "), "{}", told);
             let left: Vec<_> = fs::read_dir(&f)
                 .unwrap()
@@ -185,11 +268,25 @@ mod tests {
             fs::remove_dir_all(f.join(taken)).unwrap();
         }
         let none = f.join("none").join("x");
-        let told = libsvm(&figures("held 0\n"), none.to_str().unwrap()).unwrap_err();
+        let told = of_pair(&figures("held 0\n"), none.to_str().unwrap()).unwrap_err();
         assert!(told.contains("x.train and "), "{}", told);
-        libsvm(&figures("held 0\n"), &name).unwrap();
+        of_pair(&figures("held 0\n"), &name).unwrap();
         assert_eq!(fs::read_dir(&f).unwrap().count(), 2);
         fs::remove_dir_all(f).unwrap();
+    }
+
+    #[test]
+    fn so_many_of_each_language() {
+        let text = "package p 1\nlanguages x y z\ntrain 6\nheld 0\n";
+        let text = format!("{}{}", text, "1 0\n2 0\n3 0\n".repeat(2));
+        let s = Several::read(&text).unwrap();
+        for (word, told) in [(None, 2), (Some(&"1"), 1), (Some(&"2"), 2)] {
+            assert_eq!(of_each(&s, word), Ok(told));
+        }
+        for word in ["0", "3", "-1", "x", ""] {
+            let told = of_each(&s, Some(&word)).unwrap_err();
+            assert_eq!(told, format!("'{}': a language has 1 to 2", word));
+        }
     }
 
     #[test]

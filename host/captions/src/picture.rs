@@ -48,7 +48,7 @@ pub fn picture(f: &Figures) -> Result<String, String> {
 }
 
 const HEAD: &str = r#"<svg xmlns="http://www.w3.org/2000/svg" viewBox="0 0 960 540" width="960" height="540" role="img" font-family="sans-serif" font-size="13">"#;
-const BOLD: &str = r#"#111111" font-size="15" font-weight="bold"#;
+pub const BOLD: &str = r#"#111111" font-size="15" font-weight="bold"#;
 const LARGE: &str = r#"#111111" font-size="14"#;
 
 /// What stands above the bars of each list.
@@ -70,18 +70,18 @@ fn heads(f: &Figures, answer: &Answer) -> [String; 2] {
 }
 
 /// What may not stand in a text of the picture is written otherwise.
-fn escaped(name: &str) -> String {
+pub fn escaped(name: &str) -> String {
     name.replace('&', "&amp;").replace('<', "&lt;")
 }
 
-fn text(x: f64, y: f64, anchor: &str, fill: &str, words: &str) -> String {
+pub fn text(x: f64, y: f64, anchor: &str, fill: &str, words: &str) -> String {
     format!(
         "<text x=\"{:.1}\" y=\"{:.1}\" text-anchor=\"{}\" fill=\"{}\">{}</text>",
         x, y, anchor, fill, words
     )
 }
 
-fn rect(x: f64, y: f64, width: f64, height: f64, fill: &str) -> String {
+pub fn rect(x: f64, y: f64, width: f64, height: f64, fill: &str) -> String {
     format!(
         "<rect x=\"{:.1}\" y=\"{:.1}\" width=\"{:.1}\" height=\"{:.1}\" fill=\"{}\"/>",
         x, y, width, height, fill

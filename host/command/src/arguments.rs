@@ -1,5 +1,5 @@
 //! The words of a call.
-use crate::problem::Samples;
+use crate::problem::{self, Samples};
 use crate::{help, Trouble};
 use altuliscia::{MOST_PASSES, USUAL_FLOOR};
 use std::num::IntErrorKind;
@@ -11,6 +11,17 @@ pub enum Command {
     Weights,
     Check,
     Trail,
+}
+
+impl Command {
+    pub fn name(self) -> &'static str {
+        match self {
+            Command::Train => "train",
+            Command::Weights => "weights",
+            Command::Check => "check",
+            Command::Trail => "trail",
+        }
+    }
 }
 
 #[derive(Clone, Copy, Debug, PartialEq, Eq)]
@@ -36,6 +47,8 @@ pub struct Settings {
     pub sample: Option<String>,
     /// The name of a file with a caption for each sample.
     pub captions: Option<String>,
+    /// The labels of the two classes to train alone.
+    pub pair: Option<[i32; 2]>,
     pub budget: u64,
     pub floor: f64,
     pub quiet: bool,
@@ -52,24 +65,42 @@ impl Settings {
         retired: None,
         sample: None,
         captions: None,
+        pair: None,
         budget: MOST_PASSES,
         floor: USUAL_FLOOR,
         quiet: false,
     };
 
-    /// The ceilings of the first and the second class.
-    pub fn ceilings(&self, samples: &Samples) -> Result<(f64, f64), Trouble> {
+    /// The ceiling of each class; of one class there are two all the same.
+    pub fn costs(&self, samples: &Samples) -> Result<Vec<f64>, Trouble> {
+        let count = samples.classes.len().max(2);
         if self.fit == Fit::Nu || self.fit == Fit::OneClass {
-            return Ok((1.0, 1.0));
+            return Ok(vec![1.0; count]);
         }
-        let mut both = [self.cost; 2];
+        let mut costs = vec![self.cost; count];
         for (label, weight) in &self.weights {
             match samples.classes.iter().position(|c| c == label) {
-                Some(k) => both[k] *= weight,
+                Some(k) => costs[k] *= weight,
                 None => return usage(format!("-w{}: no sample has that label", label)),
             }
         }
-        Ok((both[0], both[1]))
+        Ok(costs)
+    }
+
+    /// The places of the two classes that are to be trained alone, the first one first; nothing where the file has no others.
+    pub fn alone(&self, samples: &Samples) -> Result<Option<(usize, usize)>, Trouble> {
+        let mut places = Vec::new();
+        for label in self.pair.iter().flatten() {
+            match samples.classes.iter().position(|c| c == label) {
+                Some(k) => places.push(k),
+                None => return usage(format!("--pair: no sample has the label {}", label)),
+            }
+        }
+        places.sort_unstable();
+        match places[..] {
+            [first, second] if samples.classes.len() > 2 => Ok(Some((first, second))),
+            _ => Ok(None),
+        }
     }
 }
 
@@ -88,9 +119,22 @@ impl Call {
     }
 }
 
+/// What `sort` is asked for.
+#[derive(Debug, PartialEq, Eq)]
+pub struct Sorting {
+    pub model: String,
+    pub file: String,
+    /// Whether the votes of every language are told.
+    pub tally: bool,
+    /// Whether nothing but labels is told.
+    pub labels: bool,
+    pub quiet: bool,
+}
+
 pub enum Words {
     Help(&'static str),
     Call(Call),
+    Sort(Sorting),
 }
 
 fn usage<T>(text: String) -> Result<T, Trouble> {
@@ -103,6 +147,7 @@ pub fn parse(words: &[String]) -> Result<Words, Trouble> {
         Some("weights") => (Command::Weights, help::WEIGHTS),
         Some("check") => (Command::Check, help::CHECK),
         Some("trail") => (Command::Trail, help::TRAIL),
+        Some("sort") => return sorting(&words[1..]),
         Some("--help") => return Ok(Words::Help(help::ALL)),
         Some("--version") => return Ok(Words::Help(help::VERSION)),
         Some(other) => return usage(format!("there is no command '{}'", other)),
@@ -145,12 +190,52 @@ pub fn parse(words: &[String]) -> Result<Words, Trouble> {
     }
 }
 
+/// The words behind `sort`.
+fn sorting(words: &[String]) -> Result<Words, Trouble> {
+    if words.iter().any(|word| word == "--help") {
+        return Ok(Words::Help(help::SORT));
+    }
+    let has = |option: &str| words.iter().any(|word| word == option);
+    let (quiet, tally, labels) = (has("-q"), has("--votes"), has("--labels"));
+    let mut files = Vec::new();
+    for word in words {
+        match word.as_str() {
+            "-q" | "--votes" | "--labels" => {}
+            "" => return usage("a file's name is empty".to_string()),
+            option if option.starts_with('-') => {
+                return usage(format!("`sort` has no option '{}'", option))
+            }
+            file => files.push(file.to_string()),
+        }
+    }
+    if tally && labels {
+        return usage("--votes beside --labels: one of them, or neither".to_string());
+    }
+    if files.len() > 2 {
+        return usage(format!("'{}' is one file too many", files[2]));
+    }
+    let mut files = files.into_iter();
+    match (files.next(), files.next()) {
+        (Some(model), Some(file)) => Ok(Words::Sort(Sorting {
+            model,
+            file,
+            tally,
+            labels,
+            quiet,
+        })),
+        _ => usage("a file is missing: `sort` has a model, then captions".to_string()),
+    }
+}
+
 /// Whether the options make sense beside each other.
 fn fits_together(command: Command, s: &Settings) -> Result<(), Trouble> {
     let trail = command == Command::Trail;
     let own = [("--sample", &s.sample), ("--captions", &s.captions)];
     if let Some((option, _)) = own.iter().find(|(_, value)| value.is_some() && !trail) {
         return usage(format!("{}: only `trail` has it", option));
+    }
+    if s.pair.is_some() && s.fit == Fit::OneClass {
+        return usage("--pair: with -s 2 there is one class".to_string());
     }
     if s.retired.is_some() && s.fit != Fit::C {
         return usage("--retired: only -s 0 trains with retired samples".to_string());
@@ -182,7 +267,7 @@ fn passes(option: &str, value: &str) -> Result<u64, Trouble> {
 
 fn has_value(option: &str) -> bool {
     let known = ["-s", "-t", "-c", "-n", "-e", "-h", "--budget", "--floor"];
-    let named = ["--retired", "--sample", "--captions"];
+    let named = ["--retired", "--sample", "--captions", "--pair"];
     known.contains(&option) || named.contains(&option) || option.starts_with("-w")
 }
 
@@ -220,6 +305,10 @@ fn set(s: &mut Settings, option: &str, value: &str) -> Result<(), Trouble> {
         }
         "--sample" => s.sample = Some(value.to_string()),
         "--captions" => s.captions = Some(value.to_string()),
+        "--pair" if s.pair.is_some() => {
+            return usage("--pair: it is there twice; one pair is trained".to_string())
+        }
+        "--pair" => s.pair = Some(labels(value)?),
         _ if option.starts_with("-w") => {
             let label = number(option, &option[2..], "a label, which is a whole number")?;
             s.weights.push((label, float()?));
@@ -227,6 +316,21 @@ fn set(s: &mut Settings, option: &str, value: &str) -> Result<(), Trouble> {
         _ => return usage(format!("there is no option '{}'", option)),
     }
     Ok(())
+}
+
+/// Two labels, parted by a comma.
+fn labels(value: &str) -> Result<[i32; 2], Trouble> {
+    let both = value.split_once(',').and_then(|(first, second)| {
+        let label = |word: &str| problem::whole(word.trim());
+        Some([label(first)?, label(second)?])
+    });
+    match both {
+        Some([one, other]) if one == other => {
+            usage(format!("--pair: '{}' is one label twice", value))
+        }
+        Some(both) => Ok(both),
+        None => usage(format!("--pair: '{}' is not two labels, as 1,2", value)),
+    }
 }
 
 #[cfg(test)]
@@ -269,6 +373,25 @@ mod tests {
         assert_eq!((c.command, c.file.as_str()), (Command::Trail, "a"));
         assert_eq!(c.settings.sample.as_deref(), Some("20"));
         assert_eq!(c.settings.captions.as_deref(), Some("a.captions"));
+        assert_eq!((c.settings.pair, c.command.name()), (None, "trail"));
+        for word in ["7,-1", "+7,-1.0", "7,-01"] {
+            let c = call(&format!("weights --pair {} a", word));
+            assert_eq!(c.settings.pair, Some([7, -1]));
+        }
+    }
+
+    #[test]
+    fn the_words_of_sort_are_read() {
+        let sorting = |line| match parsed(line) {
+            Ok(Words::Sort(sorting)) => sorting,
+            _ => panic!("{}", line),
+        };
+        let plain = sorting("sort a.model b");
+        assert_eq!((&plain.model[..], &plain.file[..]), ("a.model", "b"));
+        assert!(!plain.tally && !plain.labels && !plain.quiet);
+        assert!(sorting("sort --votes a b").tally);
+        let quiet = sorting("sort a --labels b -q");
+        assert!(quiet.labels && quiet.quiet && !quiet.tally);
     }
 
     #[test]
@@ -356,6 +479,44 @@ mod tests {
                 "train --retired 1 -s 1 a",
                 "--retired: only -s 0 trains with retired samples",
             ),
+            ("train a --pair", "--pair: its value is missing"),
+            ("train a --pair 1", "--pair: '1' is not two labels, as 1,2"),
+            (
+                "train a --pair 1,2,3",
+                "--pair: '1,2,3' is not two labels, as 1,2",
+            ),
+            (
+                "train a --pair x,2",
+                "--pair: 'x,2' is not two labels, as 1,2",
+            ),
+            (
+                "train a --pair 1,1.5",
+                "--pair: '1,1.5' is not two labels, as 1,2",
+            ),
+            ("train a --pair 1,+1", "--pair: '1,+1' is one label twice"),
+            (
+                "train --pair 1,2 --pair 1,3 a",
+                "--pair: it is there twice; one pair is trained",
+            ),
+            (
+                "weights -s 2 --pair 1,2 a",
+                "--pair: with -s 2 there is one class",
+            ),
+            (
+                "sort",
+                "a file is missing: `sort` has a model, then captions",
+            ),
+            (
+                "sort -q a",
+                "a file is missing: `sort` has a model, then captions",
+            ),
+            ("sort a b c", "'c' is one file too many"),
+            ("sort -c 1 a b", "`sort` has no option '-c'"),
+            ("sort a b --retired 1", "`sort` has no option '--retired'"),
+            (
+                "sort --votes --labels a b",
+                "--votes beside --labels: one of them, or neither",
+            ),
             (
                 "check -s 2 a --retired 1",
                 "--retired: only -s 0 trains with retired samples",
@@ -389,6 +550,7 @@ mod tests {
             "--retired",
             "--sample",
             "--captions",
+            "--pair",
             "-w1",
             "-x",
             "-v",

@@ -2,8 +2,10 @@
 use crate::arguments::{Fit, Settings};
 use crate::model::double;
 use crate::problem::{Samples, HEAD};
+use crate::several::places;
 use crate::Trouble;
 use altuliscia::{Refusal, MOST_PASSES, MOST_SAMPLES};
+use std::collections::BTreeSet;
 
 /// 2^1000.
 fn limit() -> f64 {
@@ -18,7 +20,41 @@ pub fn faults(
     ceilings: (f64, f64),
     listed: Vec<Trouble>,
 ) -> Vec<Trouble> {
-    let mut all = given(s, settings, ceilings);
+    with_settings(given(s, settings, ceilings), settings, listed)
+}
+
+/// Of more than two classes: the faults of every pair, each told once, with the first pair that meets it; then those of the settings.
+pub fn of_pairs(
+    s: &Samples,
+    settings: &Settings,
+    costs: &[f64],
+    listed: Vec<Trouble>,
+) -> Vec<Trouble> {
+    let mut seen = BTreeSet::new();
+    let mut all = Vec::new();
+    for (first, second) in places(s.classes.len()) {
+        let pair = s.pair(first, second);
+        let named = format!("in the pair {} {}", pair.classes[0], pair.classes[1]);
+        for fault in given(&pair, settings, (costs[first], costs[second])) {
+            all.push(match fault {
+                Trouble::Refused(place, refusal) if refusal == Refusal::Samples => {
+                    Trouble::Refused(format!("{} {}", place, named), refusal)
+                }
+                Trouble::Refused(place, refusal) => {
+                    if !seen.insert(place.clone()) {
+                        continue;
+                    }
+                    Trouble::Refused(format!("{}, {}", place, named), refusal)
+                }
+                other => other,
+            });
+        }
+    }
+    with_settings(all, settings, listed)
+}
+
+/// The faults of what is given, then those of the settings, and what is wrong with the list of retired samples.
+fn with_settings(mut all: Vec<Trouble>, settings: &Settings, listed: Vec<Trouble>) -> Vec<Trouble> {
     all.extend(of_settings(settings));
     all.extend(listed);
     if settings.retired.is_some() && settings.shrinking {
@@ -93,22 +129,20 @@ fn of_settings(settings: &Settings) -> Vec<Trouble> {
 
 /// The kernel values that are refused: the index of each and where it stands, with its word in a text.
 fn entries(s: &Samples) -> Vec<(usize, String)> {
-    let mut found = Vec::new();
-    for column in 0..s.n {
-        let line = s.lines.get(column).map_or("", String::as_str);
+    let bad = |k: &usize| !(s.matrix[*k].abs() <= limit());
+    let place = |k: usize| {
+        let column = k / s.n;
+        let place = s.place(column, HEAD + 8 * k);
+        let line = s.lines.get(column).map_or("", |line| &line.text);
         // The first two are the label and the serial number.
-        let words: Vec<&str> = line.split_ascii_whitespace().collect();
-        let all = column * s.n..(column + 1) * s.n;
-        for k in all.filter(|k| !(s.matrix[*k].abs() <= limit())) {
-            let place = s.place(column, HEAD + 8 * k);
-            let place = match words.get(1 + s.serials[k % s.n] as usize) {
-                Some(word) => format!("{}: '{}'", place, word),
-                None => place,
-            };
-            found.push((k, place));
+        let mut words = line.split_ascii_whitespace();
+        match words.nth(1 + s.serials[k % s.n] as usize) {
+            Some(word) => format!("{}: '{}'", place, word),
+            None => place,
         }
-    }
-    found
+    };
+    let all = (0..s.matrix.len()).filter(bad);
+    all.map(|k| (k, place(k))).collect()
 }
 
 /// The file of bytes, and what should stand in it where n may be.
@@ -137,7 +171,14 @@ pub fn told(s: &Samples, faults: &[Trouble]) -> String {
         1 => "1 fault".to_string(),
         many => format!("{} faults", many),
     };
-    lines.push(format!("{}: {} samples{}, {}", s.path, s.n, retired, count));
+    let of = match s.classes.len() {
+        k if k > 2 => format!(" of {} labels", k),
+        _ => String::new(),
+    };
+    lines.push(format!(
+        "{}: {} samples{}{}, {}",
+        s.path, s.n, of, retired, count
+    ));
     lines.join("\n") + "\n"
 }
 

@@ -5,8 +5,8 @@ pub const VERSION: &str = concat!("altuliscia ", env!("CARGO_PKG_VERSION"), "\n"
 /// The exit statuses.
 macro_rules! statuses {
     () => {
-        "Exit status: 0 done, 2 the words make no sense, 3 a file can't be read, or holds no problem, no list
-of serial numbers or no captions, 4 something can't be written, 5 a trail isn't what the library
+        "Exit status: 0 done, 2 the words make no sense, 3 a file can't be read, or holds no problem, model,
+list of serial numbers or captions, 4 something can't be written, 5 a trail isn't what the library
 answers, which is a fault of this program, 10 + N the library's refusal N (11 to 24). What was wrong
 is told on standard error.
 "
@@ -23,7 +23,7 @@ macro_rules! options {
 The label is a whole number, serial is the sample's own number from 1 on, and K(j) is its kernel
 value with the sample of number j; every value is written out, zeros too. Or FILE has the
 library's own bytes (docs/BYTES.md). At most 512 samples are trained. The label that is seen
-first is the first class; of -1 and +1 it is always +1, as in LIBSVM.
+first is the first class; of -1 and +1, where there are no others, it is always +1, as in LIBSVM.
 
 Options, named as svm-train's where they mean the same:
 
@@ -49,6 +49,9 @@ Options, named as svm-train's where they mean the same:
               begins a comment (20 is a number, ./20 a file); a file may name nobody. Their lines
               must be good ones, and count for which label is seen first. Of each class somebody
               must be left
+  --pair A,B  of a FILE with more than two labels: trains the samples of labels A and B alone, as
+              those of a file with no other lines. The first class is the one that FILE has first.
+              Needed by `weights` and `trail`, which tell of one training
   -t 4        a precomputed kernel; it is the only one there is and need not be said
   -q          says nothing where all is well; what isn't is told on standard error
 
@@ -59,10 +62,11 @@ Options, named as svm-train's where they mean the same:
 pub const ALL: &str = concat!(
     "altuliscia COMMAND ..
 
-Trains a sorter of two classes, or of one, from a kernel matrix, by the proved library
-libaltuliscia.a.
+Trains a sorter of two to twelve classes, or of one, from a kernel matrix, and sorts by it; both by
+the proved library libaltuliscia.a.
 
   altuliscia train FILE [MODEL]   trains, and writes a model file that LIBSVM's svm-predict reads
+  altuliscia sort MODEL FILE      says which language each caption of FILE is in, by a model
   altuliscia weights FILE         trains, and lists every sample with its weight
   altuliscia check FILE           names all that the library would refuse, without training
   altuliscia trail --sample S FILE
@@ -98,8 +102,51 @@ that aren't 0; where these are more than nSV, a line says how many and why. It i
 not at all, and replaces neither FILE nor the file of --retired nor one that is read-only. A retired
 sample isn't in it, and every other is called by its own serial number.
 
+FILE may have 2 to 12 labels, for as many languages. With more than two, every two languages are a
+pair that is trained by itself, on their own samples alone: the first with each other, then the
+second with each behind it, and so on. The first is the one whose label FILE has first, and so on;
+that is the order of `label` in the model, in which the first is language 1, and in a pair it is the
+earlier one whose weights are positive. A pair has at most 512 samples, retired ones too; FILE may
+have more. What is told of a training is told of each pair, and at the end of which the budget ran
+out; with -q only what isn't well is told, with its pair. A sample stands in the model with a weight
+for each other language, where one of them isn't 0.
+
 ",
     options!(),
+    statuses!()
+);
+
+pub const SORT: &str = concat!(
+    "altuliscia sort [OPTIONS] MODEL FILE
+
+Says which language each caption of FILE is in. MODEL is what `altuliscia train` writes, or LIBSVM's
+svm-train for a precomputed kernel, of 2 to 12 labels. Each two languages are a pair, which votes
+for one of them: the sum over the pair's lines in MODEL, those of its first language first, of
+weight times kernel value, less the pair's rho, is from 0 on a vote for the first, else, and where
+it is NaN, for the second. The most votes win; of equals the language that MODEL names first. Sums
+and votes are the proved library's (docs/RULE.md, 'Several languages').
+
+FILE has a line for each caption, as svm-predict takes them:
+
+  label 0:serial 1:K(1) 2:K(2) ..
+
+The label may be left out; serial is any number, and K(j) is the caption's kernel value with the
+training sample of serial number j, written out up to the largest number in MODEL.
+
+Told are, a line for each caption: its line and its serial in FILE, its label there, the label that
+it is sorted to with its votes, the runner-up with its own, and `tie of ..` with the labels that
+share the most votes, where several do. Of those that FILE has a label for, the part that is sorted
+so is told on standard error, and how many ties there are. Where something in FILE is wrong, nothing
+but that is told.
+
+  --votes     tells the votes of every language, too, as LABEL:VOTES
+  --labels    tells nothing but the label of each, a line each, which is what svm-predict writes
+  -q          tells nothing on standard error where all is well
+
+svm-predict sorts alike but where a sum less rho is exactly 0: there it votes for the second
+(docs/SORTING.md).
+
+",
     statuses!()
 );
 
@@ -113,7 +160,7 @@ what the Rust crate linfa-svm says, or would say with another floor, where that 
 weight.
 The exit reason, rho and the notes of `train` are told on standard error, and who is retired, and a
 floor that isn't the usual one; with -q only the notes, and the exit reason where it is iterations.
-No file is written.
+Where FILE has more than two labels, --pair says which two are trained. No file is written.
 
 ",
     options!(),
@@ -144,7 +191,9 @@ weights must be the same, bit for bit; else nothing but that is told (status 5).
 and who is first are the replay's: no call tells them. Each time that the sample was chosen takes
 two trainings. There is no trail with -h 1, nor with another floor than 1e-10. The exit reason, rho
 and the notes of `train` are told on standard error, and who is retired; with -q only the notes, and
-the exit reason where it is iterations. No file is written.
+the exit reason where it is iterations. Where FILE has more than two labels, --pair says which two
+are trained: a sample has a weight in each pair that it is in. (TEXTS has a line for each sample of
+FILE all the same.) No file is written.
 
 ",
     options!(),
@@ -156,8 +205,9 @@ pub const CHECK: &str = concat!(
 
 Reads FILE and names all that the library would refuse, in FILE and in the options, a line each on
 standard output: where it stands, the refusal's number and index, and what to do. What is wrong
-with the list of --retired is named, too. Refusal 11 can't be known without training. Nothing is
-trained and no file is written. The exit status is that of the first line.
+with the list of --retired is named, too. Refusal 11 can't be known without training. Where FILE has
+more than two labels, every pair is looked at, and what several would meet is named once, with the
+first. Nothing is trained and no file is written. The exit status is that of the first line.
 
 ",
     options!(),

@@ -10,6 +10,9 @@ mod progress;
 mod report;
 mod retired;
 mod save;
+mod several;
+mod sort;
+mod sorter;
 mod text;
 mod trail;
 mod trouble;
@@ -32,6 +35,7 @@ pub fn run(
     match arguments::parse(words)? {
         Words::Help(text) => tell(out, text),
         Words::Call(call) => carried_out(&call, out, err, terminal),
+        Words::Sort(asked) => sort::carried_out(&asked, out, err, terminal),
     }
 }
 
@@ -47,8 +51,13 @@ fn carried_out(
     }
     let settings = &call.settings;
     let (samples, listed) = progress::shown(err, terminal, "reading", || read(call))?;
-    let ceilings = settings.ceilings(&samples)?;
-    let finger = trail::finger(&samples, settings)?;
+    let all = samples.n;
+    let (samples, costs) = asked(samples, settings)?;
+    if samples.classes.len() > 2 {
+        return several::carried_out(call, &samples, &costs, listed, out, err, terminal);
+    }
+    let ceilings = (costs[0], costs[1]);
+    let finger = trail::finger(&samples, settings, all)?;
     let faults = faults::faults(&samples, settings, ceilings, listed);
     if call.command == Command::Check {
         return checked(&samples, settings, faults, out);
@@ -89,6 +98,18 @@ fn read(call: &Call) -> Result<(Samples, Vec<Trouble>), Trouble> {
         None => Vec::new(),
     };
     Ok((samples, listed))
+}
+
+/// The samples that the settings ask for, with the ceiling of each class: all of them, or those of one pair.
+fn asked(samples: Samples, settings: &Settings) -> Result<(Samples, Vec<f64>), Trouble> {
+    let costs = settings.costs(&samples)?;
+    Ok(match settings.alone(&samples)? {
+        Some((first, second)) => {
+            let pair = samples.pair(first, second);
+            (pair, vec![costs[first], costs[second]])
+        }
+        None => (samples, costs),
+    })
 }
 
 fn never_what_is_read(call: &Call, path: &str) -> Result<(), Trouble> {

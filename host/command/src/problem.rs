@@ -1,6 +1,8 @@
 //! Problem files: LIBSVM's text for a precomputed kernel, and the library's own bytes (docs/BYTES.md).
 use crate::arguments::Fit;
 use crate::Trouble;
+use altuliscia::MOST_LANGUAGES;
+use std::sync::Arc;
 
 /// The first eight bytes of a file of own bytes.
 pub const MAGIC: &[u8; 8] = b"ALTUPRB1";
@@ -16,23 +18,32 @@ pub struct Samples {
     pub n: usize,
     /// The kernel matrix, column by column.
     pub matrix: Vec<f64>,
-    /// 1 for the first class, 0 for the second; a file of bytes may have anything.
+    /// Of two classes 1 for the first, 0 for the second; a file of bytes may have anything. Of more classes the place of each in `classes`.
     pub labels: Vec<u8>,
-    /// What the first and the second class are called; nothing where only one class is trained.
+    /// What the classes are called, the first one first; nothing where only one class is trained.
     pub classes: Vec<i32>,
     /// What the samples are called in a model file.
     pub serials: Vec<u64>,
     /// Which of them are retired.
     pub retired: Vec<bool>,
-    /// The text of each sample's line, from line 1 on; nothing in a file of bytes.
-    pub lines: Vec<String>,
+    /// Each sample's line; nothing in a file of bytes.
+    pub lines: Vec<Line>,
+}
+
+/// A line of a text.
+#[derive(Clone, Debug)]
+pub struct Line {
+    /// Its number, from 1 on.
+    pub number: usize,
+    /// What stands there.
+    pub text: Arc<str>,
 }
 
 impl Samples {
     /// Where a sample's label or matrix column stands, for a reader who looks for it.
     pub fn place(&self, sample: usize, byte: usize) -> String {
         match self.lines.get(sample) {
-            Some(_) => format!("{}:{}", self.path, sample + 1),
+            Some(line) => format!("{}:{}", self.path, line.number),
             None => format!("{}: byte {}", self.path, byte),
         }
     }
@@ -74,10 +85,39 @@ impl Samples {
 
     /// What a sample's class is called; nothing where only one class is trained.
     pub fn label(&self, k: usize) -> String {
-        match (self.labels.get(k), &self.classes[..]) {
-            (Some(1), [first, _]) => first.to_string(),
-            (Some(_), [_, second]) => second.to_string(),
-            _ => String::new(),
+        let class = self.class(k).and_then(|class| self.classes.get(class));
+        class.map_or(String::new(), i32::to_string)
+    }
+
+    /// The place of a sample's class.
+    pub fn class(&self, k: usize) -> Option<usize> {
+        let label = *self.labels.get(k)?;
+        match (self.classes.len(), label) {
+            (2, 0 | 1) => Some(usize::from(label == 0)),
+            (2, _) => None,
+            _ => Some(usize::from(label)),
+        }
+    }
+
+    /// Of a text: the samples of two classes alone, each by its place; the one that is named first is the first of the two.
+    pub fn pair(&self, first: usize, second: usize) -> Samples {
+        let kept: Vec<usize> = (0..self.n)
+            .filter(|k| [Some(first), Some(second)].contains(&self.class(*k)))
+            .collect();
+        let column = |c: &usize| &self.matrix[c * self.n..(c + 1) * self.n];
+        let entries = kept
+            .iter()
+            .flat_map(|c| kept.iter().map(move |r| column(c)[*r]));
+        let of = |k: &usize| u8::from(self.class(*k) == Some(first));
+        Samples {
+            path: self.path.clone(),
+            n: kept.len(),
+            matrix: entries.collect(),
+            labels: kept.iter().map(of).collect(),
+            classes: vec![self.classes[first], self.classes[second]],
+            serials: kept.iter().map(|k| self.serials[*k]).collect(),
+            retired: kept.iter().map(|k| self.retired[*k]).collect(),
+            lines: kept.iter().map(|k| self.lines[*k].clone()).collect(),
         }
     }
 
@@ -160,7 +200,10 @@ fn text(path: &str, data: &[u8], fit: Fit) -> Result<Samples, (usize, String)> {
             return Err((k + 1, told));
         }
         rows.push(row);
-        kept.push(line.to_string());
+        kept.push(Line {
+            number: k + 1,
+            text: line.into(),
+        });
     }
     let labels: Vec<i32> = rows.iter().map(|row| row.label).collect();
     let classes = match fit {
@@ -174,10 +217,7 @@ fn text(path: &str, data: &[u8], fit: Fit) -> Result<Samples, (usize, String)> {
         path: path.to_string(),
         n: rows.len(),
         matrix: matrix.collect(),
-        labels: labels
-            .iter()
-            .map(|l| u8::from(classes.first() == Some(l)))
-            .collect(),
+        labels: labels.iter().map(|l| marked(&classes, *l)).collect(),
         classes,
         serials: rows.iter().map(|row| row.serial as u64).collect(),
         retired: vec![false; rows.len()],
@@ -185,11 +225,37 @@ fn text(path: &str, data: &[u8], fit: Fit) -> Result<Samples, (usize, String)> {
     })
 }
 
+/// A sample's label, as `Samples` has it.
+fn marked(classes: &[i32], label: i32) -> u8 {
+    let place = classes.iter().position(|class| *class == label);
+    match (classes.len() > 2, place) {
+        (true, place) => place.unwrap_or_default() as u8,
+        (false, place) => u8::from(place == Some(0)),
+    }
+}
+
 fn row(line: &str) -> Result<Row, String> {
     let mut words = line.split_ascii_whitespace();
     let label = words.next().ok_or("an empty line")?;
     let label = whole(label).ok_or(format!("the label '{}' is not a whole number", label))?;
     let mut serial = None;
+    let values = entries(words, |word| {
+        serial = whole(word).and_then(|x| usize::try_from(x).ok());
+        serial.is_some()
+    })?;
+    let serial = serial.ok_or("0:serial is missing")?;
+    Ok(Row {
+        label,
+        serial,
+        values,
+    })
+}
+
+/// The kernel values of a line, which follow 0:serial; whether that is one is asked.
+pub fn entries<'a>(
+    words: impl Iterator<Item = &'a str>,
+    mut serial: impl FnMut(&'a str) -> bool,
+) -> Result<Vec<f64>, String> {
     let mut values = Vec::new();
     for (k, word) in words.enumerate() {
         let wrong = || match k {
@@ -201,43 +267,34 @@ fn row(line: &str) -> Result<Row, String> {
             return Err(wrong());
         }
         match k {
-            0 => {
-                serial = Some(
-                    whole(value)
-                        .and_then(|x| usize::try_from(x).ok())
-                        .ok_or_else(wrong)?,
-                )
-            }
+            0 if serial(value) => {}
+            0 => return Err(wrong()),
             _ => values.push(value.parse().map_err(|_| wrong())?),
         }
     }
-    let serial = serial.ok_or("0:serial is missing")?;
-    Ok(Row {
-        label,
-        serial,
-        values,
-    })
+    Ok(values)
 }
 
 /// A whole number, however it is written: 1, +1, 1.0.
-fn whole(word: &str) -> Option<i32> {
+pub fn whole(word: &str) -> Option<i32> {
     let value: f64 = word.parse().ok()?;
     let number = value as i32;
     (f64::from(number) == value).then(|| number)
 }
 
-/// The two classes in LIBSVM's order: the label that is seen first is the first class, but of -1 and +1 it is +1.
+/// The classes in LIBSVM's order, that of their first samples; but of -1 and +1, where there are no others, +1 is the first.
 fn classes(labels: &[i32]) -> Result<Vec<i32>, (usize, String)> {
     let mut seen: Vec<i32> = Vec::new();
     for (k, label) in labels.iter().enumerate() {
         if !seen.contains(label) {
             seen.push(*label);
         }
-        if seen.len() > 2 {
-            return Err((
-                k + 1,
-                format!("a third label, {}: two classes are trained", label),
-            ));
+        if seen.len() > MOST_LANGUAGES {
+            let told = format!(
+                "a thirteenth label, {}: at most {} languages are sorted",
+                label, MOST_LANGUAGES
+            );
+            return Err((k + 1, told));
         }
     }
     match seen[..] {
@@ -275,6 +332,9 @@ mod tests {
         assert_eq!(classes(&[-1, -1, 1]), Ok(vec![1, -1]));
         assert_eq!(classes(&[-1, 2]), Ok(vec![-1, 2]));
         assert_eq!(classes(&[]), Ok(vec![]));
+        assert_eq!(classes(&[-1, 7, 1]), Ok(vec![-1, 7, 1]));
+        let twelve: Vec<i32> = (0..12).rev().chain([5, 0]).collect();
+        assert_eq!(classes(&twelve), Ok(twelve[..12].to_vec()));
     }
 
     #[test]
@@ -319,18 +379,44 @@ mod tests {
             let found = text("a", wrong.as_bytes(), Fit::C).map(|s| s.n);
             assert_eq!(found, Err((line, told.to_string())));
         }
-        let third = format!("{}{}", SMALL, "2 0:3 1:0 2:0 3:1\n");
-        let found = text("a", third.as_bytes(), Fit::C).map(|s| s.n);
+        let thirteen: String = (0..13).map(|k| format!("{} 0:1 1:1\n", k)).collect();
+        let found = text("a", thirteen.as_bytes(), Fit::C).map(|s| s.n);
+        let told = "a thirteenth label, 12: at most 12 languages are sorted";
+        assert_eq!(found, Err((13, told.to_string())));
         assert_eq!(
-            found,
-            Err((3, "a third label, 2: two classes are trained".to_string()))
-        );
-        assert_eq!(
-            text("a", third.as_bytes(), Fit::OneClass).map(|s| s.n),
-            Ok(3)
+            text("a", thirteen.as_bytes(), Fit::OneClass).map(|s| s.n),
+            Ok(13)
         );
         let found = text("a", b"1 0:1 1:1\n\xff", Fit::C).map(|s| s.n);
         assert_eq!(found, Err((2, "not a text".to_string())));
+    }
+
+    #[test]
+    fn a_pair_has_its_own_samples_alone() {
+        let data = "5 0:1 1:1 2:2 3:3 4:4\n9 0:2 1:2 2:5 3:6 4:7\n-1 0:3 1:3 2:6 3:8 4:9\n5 0:4 1:4 2:7 3:9 4:0\n";
+        let mut s = text("a", data.as_bytes(), Fit::C).unwrap();
+        assert_eq!(
+            (&s.classes[..], &s.labels[..]),
+            (&[5, 9, -1][..], &[0, 1, 2, 0][..])
+        );
+        assert_eq!(
+            (0..4).map(|k| s.label(k)).collect::<Vec<_>>(),
+            ["5", "9", "-1", "5"]
+        );
+        s.retired[3] = true;
+        let pair = s.pair(0, 2);
+        assert_eq!((pair.n, &pair.labels[..]), (3, &[1, 0, 1][..]));
+        assert_eq!(pair.matrix, [1.0, 3.0, 4.0, 3.0, 8.0, 9.0, 4.0, 9.0, 0.0]);
+        assert_eq!(
+            (pair.classes.clone(), pair.serials.clone()),
+            (vec![5, -1], vec![1, 3, 4])
+        );
+        assert_eq!(
+            (pair.place(1, 0), pair.label(1)),
+            ("a:3".to_string(), "-1".to_string())
+        );
+        assert_eq!(pair.retired, [false, false, true]);
+        assert_eq!(s.pair(1, 2).matrix, [5.0, 6.0, 6.0, 8.0]);
     }
 
     #[test]

@@ -44,6 +44,20 @@ fn differs(answer: &Answer, k: usize) -> bool {
 
 /// The lines that svm-train ends with, then why the run ended and what a reader should know of it.
 pub fn summary(s: &Samples, settings: &Settings, ceilings: (f64, f64), a: &Answer) -> String {
+    let mut lines = finished(s, settings, ceilings, a);
+    if settings.fit != Fit::OneClass {
+        lines.push(format!("Total nSV = {}", a.support));
+    }
+    lines.extend(uncounted(a));
+    lines.extend(retired(s));
+    lines.extend(floor(settings));
+    lines.push(ended(settings, a));
+    lines.extend(notes(s, settings, a));
+    lines.join("\n") + "\n"
+}
+
+/// The lines that svm-train tells of one training.
+fn finished(s: &Samples, settings: &Settings, ceilings: (f64, f64), a: &Answer) -> Vec<String> {
     let mut lines = vec![format!("optimization finished, #iter = {}", a.iterations)];
     match (settings.fit, a.r) {
         (Fit::C, _) if ceilings.0 == ceilings.1 => {
@@ -64,15 +78,31 @@ pub fn summary(s: &Samples, settings: &Settings, ceilings: (f64, f64), a: &Answe
         .filter(|k| ceiling(s, settings.fit, ceilings, a, *k).is_some())
         .count();
     lines.push(format!("nSV = {}, nBSV = {}", a.support, bounded));
-    if settings.fit != Fit::OneClass {
-        lines.push(format!("Total nSV = {}", a.support));
-    }
+    lines
+}
+
+/// Of a pair among several: what is told of its training, the notes that hold of all pairs left out.
+pub fn of_pair(s: &Samples, settings: &Settings, ceilings: (f64, f64), a: &Answer) -> Vec<String> {
+    let mut lines = finished(s, settings, ceilings, a);
     lines.extend(uncounted(a));
-    lines.extend(retired(s));
-    lines.extend(floor(settings));
     lines.push(ended(settings, a));
-    lines.extend(notes(s, settings, a));
-    lines.join("\n") + "\n"
+    lines.extend(of_answer(s, settings, a));
+    lines
+}
+
+/// Of a pair among several: only what isn't well.
+pub fn not_well(s: &Samples, settings: &Settings, a: &Answer) -> Vec<String> {
+    let mut lines = Vec::new();
+    if a.reason == ExitReason::Iterations {
+        lines.push(ended(settings, a));
+    }
+    lines.extend(of_answer(s, settings, a));
+    lines
+}
+
+/// What is told of all pairs together: who is retired, a floor that isn't the usual one.
+pub fn of_all(s: &Samples, settings: &Settings) -> Vec<String> {
+    retired(s).into_iter().chain(floor(settings)).collect()
 }
 
 /// Where the model lists more weights than nSV counts: how many it lists, and what the others are.
@@ -144,6 +174,12 @@ fn ended(settings: &Settings, a: &Answer) -> String {
 
 /// What makes a model worse than it looks.
 fn notes(s: &Samples, settings: &Settings, a: &Answer) -> Vec<String> {
+    let mut notes = of_answer(s, settings, a);
+    notes.extend(of_shrinking(settings));
+    notes
+}
+
+fn of_answer(s: &Samples, settings: &Settings, a: &Answer) -> Vec<String> {
     let mut notes = Vec::new();
     if !a.rho.is_finite() {
         let hint = if settings.shrinking {
@@ -170,13 +206,13 @@ fn notes(s: &Samples, settings: &Settings, a: &Answer) -> Vec<String> {
             }
         ));
     }
-    if settings.shrinking {
-        notes.push(
-            "note: with -h 1 'threshold' speaks only of the samples still active, and obj and rho needn't be those of these weights; train with -h 0"
-                .to_string(),
-        );
-    }
     notes
+}
+
+/// The note on shrinking, where it is on.
+pub fn of_shrinking(settings: &Settings) -> Option<String> {
+    let note = "note: with -h 1 'threshold' speaks only of the samples still active, and obj and rho needn't be those of these weights; train with -h 0";
+    settings.shrinking.then(|| note.to_string())
 }
 
 /// A line for each sample, with the crate's reading where it is another.

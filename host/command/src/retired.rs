@@ -82,17 +82,15 @@ pub fn mark(s: &mut Samples, list: &str) -> Result<Vec<Trouble>, Trouble> {
 
 /// Whose samples are all retired, where anybody's are: a label's, or everyone's.
 fn whose(s: &Samples) -> Option<String> {
-    let gone = |label: u8| {
-        let mut own = (0..s.n)
-            .filter(|k| s.labels.get(*k) == Some(&label))
-            .peekable();
+    let gone = |class: &usize| {
+        let mut own = (0..s.n).filter(|k| s.class(*k) == Some(*class)).peekable();
         own.peek().is_some() && own.all(|k| s.retired[k])
     };
-    match (gone(1), gone(0), &s.classes[..]) {
-        (true, true, _) => Some(String::new()),
-        (true, _, [first, _]) => Some(format!(" of label {}", first)),
-        (_, true, [_, second]) => Some(format!(" of label {}", second)),
-        _ => None,
+    let all: Vec<usize> = (0..s.classes.len()).filter(gone).collect();
+    match all.first() {
+        None => None,
+        Some(_) if all.len() == s.classes.len() => Some(String::new()),
+        Some(class) => Some(format!(" of label {}", s.classes[*class])),
     }
 }
 

@@ -19,8 +19,8 @@ impl Finger {
     }
 }
 
-/// What a call points at, where it asks for a trail.
-pub fn finger(s: &Samples, settings: &Settings) -> Result<Option<Finger>, Trouble> {
+/// What a call points at, where it asks for a trail. Its file has so many samples in all.
+pub fn finger(s: &Samples, settings: &Settings, all: usize) -> Result<Option<Finger>, Trouble> {
     let word = match &settings.sample {
         Some(word) => word,
         None => return Ok(None),
@@ -28,7 +28,12 @@ pub fn finger(s: &Samples, settings: &Settings) -> Result<Option<Finger>, Troubl
     let wrong = |told| Trouble::Usage(format!("--sample: {}", told));
     let sample = s.with_serial(word).map_err(wrong)?;
     let captions = match &settings.captions {
-        Some(path) => Some(text::captions(path, s.n)?),
+        Some(path) => {
+            let captions = text::captions(path, all)?;
+            let place = |k: usize| s.lines.get(k).map_or(k, |line| line.number - 1);
+            let own = (0..s.n).map(|k| captions.get(place(k)).cloned().unwrap_or_default());
+            Some(own.collect())
+        }
         None => None,
     };
     Ok(Some(Finger { sample, captions }))

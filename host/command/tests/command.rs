@@ -576,6 +576,7 @@ fn help_is_there_for_all() {
         "weights FILE --help",
         "check --help -c",
         "trail --help",
+        "sort --help",
     ] {
         let text = told(line, "", "").unwrap();
         assert!(

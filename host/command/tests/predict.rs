@@ -2,7 +2,7 @@
 use altuliscia::{
     fit_c, fit_c_retired, fit_nu, fit_one_class, Answer, OneClass, Options, Problem, SUPPORT_LIMIT,
 };
-use captions::{decision, Figures};
+use captions::{decision, Figures, Model, Several};
 use std::fs;
 use std::io::Write;
 use std::path::{Path, PathBuf};
@@ -276,4 +276,182 @@ fn libsvm_itself_sorts_as_the_page_says() {
     let page = include_str!("../../../docs/COMPARED.md");
     let row = format!("\n| LIBSVM | {} | {} |\n", right, right);
     assert!(page.contains(&row), "{}", row);
+}
+
+/// Numbers that look drawn.
+struct Drawn(u64);
+
+impl Drawn {
+    fn below(&mut self, limit: u64) -> u64 {
+        self.0 = self
+            .0
+            .wrapping_mul(6364136223846793005)
+            .wrapping_add(1442695040888963407);
+        (self.0 >> 33) % limit
+    }
+}
+
+/// A text of captions to train on and one of captions to sort, in six languages that lie close to each other, so that there are ties. The
+/// kernel is a product of small whole numbers over 7.
+fn six_languages(train: usize, held: usize) -> (String, String) {
+    let mut drawn = Drawn(11);
+    let centres: Vec<[i64; 4]> = (0..6)
+        .map(|_| [0; 4].map(|_: i64| drawn.below(7) as i64 - 3))
+        .collect();
+    let captions: Vec<(usize, [i64; 4])> = (0..train + held)
+        .map(|k| (k % 6, centres[k % 6].map(|x| x + drawn.below(9) as i64 - 4)))
+        .collect();
+    let line = |k: usize| {
+        let (language, p) = captions[k];
+        let value = |q: &[i64; 4]| 3 + (0..4).map(|d| p[d] * q[d]).sum::<i64>();
+        let values = captions[..train].iter().enumerate();
+        let values = values.map(|(j, (_, q))| format!(" {}:{:?}", j + 1, value(q) as f64 / 7.0));
+        let label = [40, 7, -1, 3, 1, 12][language];
+        format!("{} 0:{}{}\n", label, k + 1, values.collect::<String>())
+    };
+    let text = |range: std::ops::Range<usize>| range.map(line).collect::<String>();
+    (text(0..train), text(train..train + held))
+}
+
+/// What the pairs of a model decide on each caption of a text: the sum over the model's lines, in their order, less rho.
+fn decisions(model: &str, held: &str) -> Vec<Vec<f64>> {
+    let model = Model::read(model).unwrap();
+    let decided = |line: &str| {
+        let words = line.split_whitespace().skip(2);
+        let values = words.map(|w| w.split_once(':').unwrap().1.parse().unwrap());
+        model.decisions(&values.collect::<Vec<f64>>())
+    };
+    held.lines().map(decided).collect()
+}
+
+/// What `altuliscia sort` tells, by the files that are there.
+fn sorted(folder: &Path, option: &str) -> String {
+    let path = |name: &str| folder.join(name).to_str().unwrap().to_string();
+    let words = ["sort".to_string(), "-q".to_string(), option.to_string()];
+    let words = [&words[..], &[path("model"), path("held")]].concat();
+    let mut out = Vec::new();
+    command::run(&words, &mut out, &mut Vec::new(), false).unwrap();
+    String::from_utf8(out).unwrap()
+}
+
+/// Both read one model file and sum over its lines in one order, so they sort alike, ties too, wherever no decision of a pair is within 1e-9
+/// of 0. (On x86-64 the sums are the same to the bit; elsewhere svm-predict may merge a product with its sum.)
+#[test]
+fn several_languages_are_sorted_as_svm_predict_does() {
+    if !there() {
+        return;
+    }
+    let (train, held) = six_languages(240, 600);
+    let folder = folder("several");
+    // Of our own models, then of svm-train's, whose last digits may be others elsewhere.
+    let (mut compared, mut ties, mut near) = ([0; 2], [0; 2], [0; 2]);
+    for options in [
+        "-c 1",
+        "-c 10 -e 1e-7",
+        "-c 0.1 -w7 3",
+        "-s 1 -n 0.3",
+        "-c 1 --retired 5,17,100,101,102,240",
+        "svm-train -c 1",
+        "svm-train -s 1 -n 0.3",
+    ] {
+        let whose = usize::from(options.starts_with("svm-train "));
+        let found = match options.strip_prefix("svm-train ") {
+            Some(own) => {
+                let path = |name: &str| folder.join(name).to_str().unwrap().to_string();
+                let mut command = Command::new("svm-train");
+                command.args(["-q", "-t", "4"]).args(own.split(' '));
+                let output = command.args([path("train"), path("model")]).output();
+                assert!(output.unwrap().status.success());
+                labelled(&folder)
+            }
+            None => predicted(&folder, &train, &held, options),
+        };
+        let ours = sorted(&folder, "--labels");
+        let list = sorted(&folder, "--votes");
+        let model = fs::read_to_string(folder.join("model")).unwrap();
+        assert!(model.contains("\nnr_class 6\n") && model.contains("\nlabel 40 7 -1 3 1 12\n"));
+        let decided = decisions(&model, &held);
+        let rows = ours.lines().zip(list.lines().skip(1));
+        for ((theirs, (ours, row)), decided) in found.iter().zip(rows).zip(&decided) {
+            if decided.iter().any(|d| d.abs() <= 1e-9) {
+                near[whose] += 1;
+                continue;
+            }
+            assert_eq!(ours.parse::<i32>(), Ok(*theirs), "{} {}", options, row);
+            compared[whose] += 1;
+            ties[whose] += usize::from(row.contains("tie of"));
+        }
+    }
+    assert_eq!([0, 1].map(|k| compared[k] + near[k]), [3000, 1200]);
+    assert!(
+        near[0] + near[1] < 42 && ties[1] > 20,
+        "{:?} {:?}",
+        ties,
+        near
+    );
+    let page = include_str!("../../../docs/SORTING.md");
+    let told = format!("{} captions, {} of them ties", compared[0], ties[0]);
+    assert!(page.contains(&told), "{} {:?}", told, near);
+}
+
+/// Real captions of twelve languages: none of the 66 decisions on a caption is near 0, so every label is the same.
+#[test]
+fn twelve_languages_are_sorted_as_svm_predict_does() {
+    if !there() {
+        return;
+    }
+    let figures = include_str!("../../../captions/twelve.txt");
+    let figures = Several::read(figures).unwrap();
+    let n = figures.of_each();
+    let train: String = figures.libsvm_train(n).collect();
+    let held: String = figures.libsvm_held(n).collect();
+    let folder = folder("twelve");
+    let (mut compared, mut ties) = (0, 0);
+    for options in ["-c 1", "-c 10", "-s 1 -n 0.1"] {
+        let found = predicted(&folder, &train, &held, options);
+        let ours = sorted(&folder, "--labels");
+        let ours: Vec<i32> = ours.lines().map(|line| line.parse().unwrap()).collect();
+        let model = fs::read_to_string(folder.join("model")).unwrap();
+        let decided = decisions(&model, &held);
+        assert_eq!(decided.len(), figures.held.len());
+        assert!(decided.iter().all(|d| d.len() == 66));
+        assert!(decided.iter().flatten().all(|d| d.abs() > 1e-9));
+        assert_eq!(ours, found, "{}", options);
+        compared += ours.len();
+        ties += sorted(&folder, "--votes").matches("tie of").count();
+    }
+    assert_eq!(compared, 3 * 612);
+    assert!(ties > 30, "{}", ties);
+}
+
+/// Where a decision is exactly 0 svm-predict votes for the second language, and the library for the first; a NaN is the second's for both.
+#[test]
+fn a_decision_of_zero_is_where_they_part() {
+    if !there() {
+        return;
+    }
+    let folder = folder("zero");
+    let train = "7 0:1 1:1 2:0\n3 0:2 1:0 2:1\n";
+    for (line, theirs, ours) in [
+        ("7 0:1 1:1 2:1\n", 3, "7\n"),
+        ("7 0:1 1:0 2:0\n", 3, "7\n"),
+        ("7 0:1 1:1.0000000000000002 2:1\n", 7, "7\n"),
+        ("7 0:1 1:1 2:1.0000000000000002\n", 3, "3\n"),
+        ("7 0:1 1:nan 2:1\n", 3, "3\n"),
+        ("7 0:1 1:inf 2:inf\n", 3, "3\n"),
+        ("7 0:1 1:inf 2:1\n", 7, "7\n"),
+    ] {
+        let found = predicted(&folder, train, line, "");
+        assert_eq!(
+            (found, sorted(&folder, "--labels")),
+            (vec![theirs], ours.to_string())
+        );
+    }
+    // Among three languages it can turn the winner: here every pair is 0.
+    let train = "7 0:1 1:1 2:0 3:0\n3 0:2 1:0 2:1 3:0\n9 0:3 1:0 2:0 3:1\n";
+    let found = predicted(&folder, train, "7 0:1 1:1 2:1 3:1\n", "");
+    assert_eq!(
+        (found, sorted(&folder, "--labels")),
+        (vec![9], "7\n".to_string())
+    );
 }

@@ -1,0 +1,180 @@
+//! Several languages: every two of them are trained by themselves, each as a file of these two would be.
+use crate::arguments::{Call, Command, Settings};
+use crate::problem::Samples;
+use crate::{answered, checked, faults, model, progress, report, save, tell, Trouble};
+use altuliscia::{pairs, Answer, ExitReason, SUPPORT_LIMIT};
+use std::io::Write;
+
+/// The pairs of so many classes in their order, by the classes' places from 0 on.
+pub fn places(classes: usize) -> impl Iterator<Item = (usize, usize)> {
+    pairs(classes).map(|(first, second)| (first - 1, second - 1))
+}
+
+/// What the trainings of all pairs leave.
+pub struct Trained {
+    /// Of each sample a weight for each other class, in their order: that of its pair with it. Those of other pairs aren't there.
+    pub weights: Vec<Vec<f64>>,
+    pub rhos: Vec<f64>,
+    /// What is told of each pair: its name, all of it, and what isn't well.
+    told: Vec<(String, Vec<String>, Vec<String>)>,
+    /// The pairs whose budget ran out.
+    spent: Vec<String>,
+}
+
+impl Trained {
+    /// Whether one of a sample's weights isn't zero. However small it is, a decision needs it.
+    pub fn listed(&self, k: usize) -> bool {
+        self.weights[k].iter().any(|weight| *weight != 0.0)
+    }
+
+    /// Whether one of them counts as support.
+    fn counted(&self, k: usize) -> bool {
+        let mut weights = self.weights[k].iter();
+        weights.any(|weight| weight.abs() > SUPPORT_LIMIT)
+    }
+
+    fn with(&mut self, s: &Samples, (first, second): (usize, usize), answer: &Answer) {
+        let own = (0..s.n).filter(|k| [Some(first), Some(second)].contains(&s.class(*k)));
+        for (k, weight) in own.zip(&answer.home) {
+            // The column of the other class, among all but its own.
+            let column = match s.class(k) == Some(first) {
+                true => second - 1,
+                false => first,
+            };
+            self.weights[k][column] = *weight;
+        }
+        self.rhos.push(answer.rho);
+    }
+}
+
+/// Carries out what is asked of a file with more than two labels.
+pub fn carried_out(
+    call: &Call,
+    s: &Samples,
+    costs: &[f64],
+    listed: Vec<Trouble>,
+    out: &mut dyn Write,
+    err: &mut (dyn Write + Send),
+    terminal: bool,
+) -> Result<(), Trouble> {
+    let settings = &call.settings;
+    if call.command == Command::Weights || call.command == Command::Trail {
+        return Err(third(call, s));
+    }
+    let faults = faults::of_pairs(s, settings, costs, listed);
+    if call.command == Command::Check {
+        return checked(s, settings, faults, out);
+    }
+    if let Some(first) = faults.into_iter().next() {
+        return Err(first);
+    }
+    let trained = progress::in_parts(err, terminal, |now| trained(s, settings, costs, now))?;
+    save::whole(
+        &call.model_path(),
+        &model::of_several(s, settings.fit, &trained),
+    )?;
+    if !settings.quiet {
+        return tell(out, &summary(s, settings, &trained));
+    }
+    // Where standard error takes nothing, there is no place left to say so.
+    let _ = err.write_all(beside(settings, &trained).as_bytes());
+    Ok(())
+}
+
+/// The first sample of a third label, where two are wanted.
+fn third(call: &Call, s: &Samples) -> Trouble {
+    let place = (0..s.n).find(|k| s.class(*k) == Some(2));
+    Trouble::File(format!(
+        "{}: a third label, {}: `{}` is of two classes, and --pair says of which",
+        s.place(place.unwrap_or_default(), 0),
+        s.classes[2],
+        call.command.name()
+    ))
+}
+
+/// Trains every pair, in their order.
+fn trained(
+    s: &Samples,
+    settings: &Settings,
+    costs: &[f64],
+    now: &dyn Fn(String),
+) -> Result<Trained, Trouble> {
+    let classes = s.classes.len();
+    let all = places(classes).count();
+    let mut trained = Trained {
+        weights: vec![vec![0.0; classes - 1]; s.n],
+        rhos: Vec::new(),
+        told: Vec::new(),
+        spent: Vec::new(),
+    };
+    for (k, (first, second)) in places(classes).enumerate() {
+        let labels = format!("{} {}", s.classes[first], s.classes[second]);
+        let name = format!("pair {} of {}: {}", k + 1, all, labels);
+        now(name.clone());
+        let pair = s.pair(first, second);
+        let ceilings = (costs[first], costs[second]);
+        let answer = answered(&pair, settings, ceilings)
+            .map_err(|refusal| Trouble::Refused(format!("{}: {}", s.path, name), refusal))?;
+        trained.with(s, (first, second), &answer);
+        if answer.reason == ExitReason::Iterations {
+            trained.spent.push(labels);
+        }
+        trained.told.push((
+            name,
+            report::of_pair(&pair, settings, ceilings, &answer),
+            report::not_well(&pair, settings, &answer),
+        ));
+    }
+    Ok(trained)
+}
+
+/// What is told of each pair, then of all of them.
+fn summary(s: &Samples, settings: &Settings, trained: &Trained) -> String {
+    let mut lines = Vec::new();
+    for (name, told, _) in &trained.told {
+        lines.push(name.clone());
+        lines.extend(told.iter().cloned());
+        lines.push(String::new());
+    }
+    let count = |test: &dyn Fn(usize) -> bool| (0..s.n).filter(|k| test(*k)).count();
+    let counted = count(&|k| trained.counted(k));
+    let listed = count(&|k| trained.listed(k));
+    lines.push(format!("Total nSV = {}", counted));
+    if listed != counted {
+        lines.push(format!(
+            "samples in the model: {} ({} of them not counted as support)",
+            listed,
+            listed - counted
+        ));
+    }
+    lines.extend(report::of_all(s, settings));
+    lines.push(ended(settings, trained));
+    lines.extend(report::of_shrinking(settings));
+    lines.join("\n") + "\n"
+}
+
+/// How the trainings ended.
+fn ended(settings: &Settings, trained: &Trained) -> String {
+    let all = trained.told.len();
+    match trained.spent.len() {
+        0 => format!("exit reason: threshold, of all {} pairs", all),
+        some => format!(
+            "exit reason: iterations (all {} of the budget), of {} of {} pairs: {}",
+            settings.budget,
+            some,
+            all,
+            trained.spent.join(", ")
+        ),
+    }
+}
+
+/// What isn't well, a line each, with its pair.
+fn beside(settings: &Settings, trained: &Trained) -> String {
+    let told = trained.told.iter();
+    let lines = told.flat_map(|(name, _, not_well)| {
+        let named = move |line: &String| format!("{}: {}", name, line);
+        not_well.iter().map(named)
+    });
+    let lines = lines.chain(report::of_shrinking(settings));
+    lines.map(|line| line + "\n").collect()
+}
