@@ -110,12 +110,14 @@ mod pair;
 mod refusal;
 mod replay;
 mod trail;
+mod trained;
 mod training;
 mod votes;
 
 pub use pair::{find_pair, Before};
 pub use refusal::Refusal;
 pub use trail::{trail, NoTrail, Step, Trail};
+pub use trained::{decision, Trained, Unfit, WrongLength};
 pub use training::Training;
 pub use votes::{pairs, votes, NoVotes, Panel, Votes};
 
