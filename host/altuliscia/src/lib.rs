@@ -105,6 +105,7 @@
 #![deny(missing_docs, unsafe_code)]
 
 mod call;
+mod cautions;
 mod functions;
 mod pair;
 mod refusal;
@@ -114,6 +115,7 @@ mod trained;
 mod training;
 mod votes;
 
+pub use cautions::Caution;
 pub use pair::{find_pair, Before};
 pub use refusal::Refusal;
 pub use trail::{trail, NoTrail, Step, Trail};

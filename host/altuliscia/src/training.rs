@@ -52,14 +52,9 @@ pub enum Training<'a> {
 }
 
 impl Training<'_> {
-    /// Trains it.
-    pub fn fit(&self, options: &Options) -> Result<Answer, Refusal> {
-        self.fit_tuned(&Tuned::from(*options))
-    }
-
-    /// Trains it, with what is told beside the options.
-    pub fn fit_tuned(&self, tuned: &Tuned) -> Result<Answer, Refusal> {
-        let n = match self {
+    /// How many samples there are, retired ones too.
+    pub(crate) fn samples(&self) -> usize {
+        match self {
             Training::C { problem, .. }
             | Training::CRetired { problem, .. }
             | Training::Nu { problem, .. } => problem.labels.len(),
@@ -67,7 +62,17 @@ impl Training<'_> {
             Training::General(general) | Training::Retired { general, .. } => {
                 general.problem.labels.len()
             }
-        };
+        }
+    }
+
+    /// Trains it.
+    pub fn fit(&self, options: &Options) -> Result<Answer, Refusal> {
+        self.fit_tuned(&Tuned::from(*options))
+    }
+
+    /// Trains it, with what is told beside the options.
+    pub fn fit_tuned(&self, tuned: &Tuned) -> Result<Answer, Refusal> {
+        let n = self.samples();
         match *self {
             Training::C {
                 ref problem,
