@@ -52,6 +52,21 @@ pub struct Settings {
     pub budget: u64,
     pub floor: f64,
     pub quiet: bool,
+    /// Whether the file may have lines for some of the serial numbers only.
+    pub part: bool,
+    /// Whether a model is written that isn't to be released.
+    pub anyway: bool,
+    pub form: Form,
+    /// The options that were given, by their names.
+    pub given: Vec<String>,
+}
+
+/// How a list is told.
+#[derive(Clone, Copy, Debug, PartialEq, Eq)]
+pub enum Form {
+    Table,
+    Csv,
+    Json,
 }
 
 impl Settings {
@@ -69,6 +84,10 @@ impl Settings {
         budget: MOST_PASSES,
         floor: USUAL_FLOOR,
         quiet: false,
+        part: false,
+        anyway: false,
+        form: Form::Table,
+        given: Vec::new(),
     };
 
     /// The ceiling of each class; of one class there are two all the same.
@@ -77,14 +96,19 @@ impl Settings {
         if self.fit == Fit::Nu || self.fit == Fit::OneClass {
             return Ok(vec![1.0; count]);
         }
-        let mut costs = vec![self.cost; count];
-        for (label, weight) in &self.weights {
-            match samples.classes.iter().position(|c| c == label) {
-                Some(k) => costs[k] *= weight,
-                None => return usage(format!("-w{}: no sample has that label", label)),
-            }
+        let mut named = self.weights.iter().map(|(label, _)| label);
+        if let Some(label) = named.find(|label| !samples.classes.contains(label)) {
+            return usage(format!("-w{}: no sample has that label", label));
         }
-        Ok(costs)
+        let costs = samples.classes.iter().map(|c| self.cost_of(*c));
+        let rest = std::iter::repeat(self.cost);
+        Ok(costs.chain(rest).take(count).collect())
+    }
+
+    /// The cost of a label.
+    pub fn cost_of(&self, label: i32) -> f64 {
+        let own = self.weights.iter().filter(|(l, _)| *l == label);
+        own.fold(self.cost, |cost, (_, factor)| cost * factor)
     }
 
     /// The places of the two classes that are to be trained alone, the first one first; nothing where the file has no others.
@@ -119,7 +143,7 @@ impl Call {
     }
 }
 
-/// What `sort` is asked for.
+/// What `sort` or `decide` is asked for.
 #[derive(Debug, PartialEq, Eq)]
 pub struct Sorting {
     pub model: String,
@@ -129,110 +153,283 @@ pub struct Sorting {
     /// Whether nothing but labels is told.
     pub labels: bool,
     pub quiet: bool,
+    pub form: Form,
+}
+
+/// What `show` is asked for.
+#[derive(Debug, PartialEq, Eq)]
+pub struct Showing {
+    pub model: String,
+    /// What it may have been trained on.
+    pub file: Option<String>,
 }
 
 pub enum Words {
     Help(&'static str),
     Call(Call),
     Sort(Sorting),
+    Decide(Sorting),
+    Show(Showing),
 }
 
 fn usage<T>(text: String) -> Result<T, Trouble> {
     Err(Trouble::Usage(text))
 }
 
+/// The help of a command.
+fn help_of(name: &str) -> Option<&'static str> {
+    Some(match name {
+        "train" => help::TRAIN,
+        "sort" => help::SORT,
+        "decide" => help::DECIDE,
+        "weights" => help::WEIGHTS,
+        "show" => help::SHOW,
+        "check" => help::CHECK,
+        "trail" => help::TRAIL,
+        _ => return None,
+    })
+}
+
 pub fn parse(words: &[String]) -> Result<Words, Trouble> {
-    let (command, text) = match words.first().map(String::as_str) {
-        Some("train") => (Command::Train, help::TRAIN),
-        Some("weights") => (Command::Weights, help::WEIGHTS),
-        Some("check") => (Command::Check, help::CHECK),
-        Some("trail") => (Command::Trail, help::TRAIL),
-        Some("sort") => return sorting(&words[1..]),
-        Some("--help") => return Ok(Words::Help(help::ALL)),
-        Some("--version") => return Ok(Words::Help(help::VERSION)),
-        Some(other) => return usage(format!("there is no command '{}'", other)),
+    let (name, rest) = match words.split_first() {
+        Some((name, rest)) => (name.as_str(), rest),
         None => return usage("a command is missing".to_string()),
     };
-    if words.iter().any(|word| word == "--help") {
+    match name {
+        "--help" | "-h" => return Ok(Words::Help(help::ALL)),
+        "help" => return helped(rest),
+        "--version" | "-V" => return Ok(Words::Help(help::VERSION)),
+        _ => {}
+    }
+    let text = match help_of(name) {
+        Some(text) => text,
+        None => return usage(format!("there is no command '{}'", name)),
+    };
+    // -h has a value, so it asks for help only where it stands alone.
+    let mut before = rest.iter().take_while(|word| *word != "--");
+    if before.any(|word| word == "--help") || rest == ["-h"] {
         return Ok(Words::Help(text));
     }
-    let mut settings = Settings::USUAL;
-    let mut files = Vec::new();
-    let mut rest = words[1..].iter();
-    while let Some(word) = rest.next() {
-        match word.as_str() {
-            "-q" => settings.quiet = true,
-            option if option.starts_with('-') => match rest.next() {
-                Some(value) => set(&mut settings, option, value)?,
-                None if has_value(option) => {
-                    return usage(format!("{}: its value is missing", option))
-                }
-                None => return usage(format!("there is no option '{}'", option)),
-            },
-            "" => return usage("a file's name is empty".to_string()),
-            file => files.push(file.to_string()),
-        }
-    }
-    fits_together(command, &settings)?;
-    let most = if command == Command::Train { 2 } else { 1 };
-    if files.len() > most {
-        return usage(format!("'{}' is one file too many", files[most]));
-    }
-    let mut files = files.into_iter();
-    match files.next() {
-        Some(file) => Ok(Words::Call(Call {
-            command,
-            file,
-            model: files.next(),
-            settings,
-        })),
-        None => usage("a file is missing".to_string()),
+    match name {
+        "train" => call(Command::Train, rest),
+        "weights" => call(Command::Weights, rest),
+        "check" => call(Command::Check, rest),
+        "trail" => call(Command::Trail, rest),
+        "show" => showing(rest),
+        "sort" => sorting(name, &["-q", "--votes", "--labels"], rest).map(Words::Sort),
+        _ => sorting(name, &["-q", "--csv", "--json"], rest).map(Words::Decide),
     }
 }
 
-/// The words behind `sort`.
-fn sorting(words: &[String]) -> Result<Words, Trouble> {
-    if words.iter().any(|word| word == "--help") {
-        return Ok(Words::Help(help::SORT));
+/// The words behind `help`.
+fn helped(words: &[String]) -> Result<Words, Trouble> {
+    match words {
+        [] => Ok(Words::Help(help::ALL)),
+        [name] => match help_of(name) {
+            Some(text) => Ok(Words::Help(text)),
+            None => usage(format!("there is no command '{}'", name)),
+        },
+        [_, more, ..] => usage(format!("'{}' is one word too many", more)),
     }
-    let has = |option: &str| words.iter().any(|word| word == option);
-    let (quiet, tally, labels) = (has("-q"), has("--votes"), has("--labels"));
-    let mut files = Vec::new();
-    for word in words {
-        match word.as_str() {
-            "-q" | "--votes" | "--labels" => {}
-            "" => return usage("a file's name is empty".to_string()),
-            option if option.starts_with('-') => {
-                return usage(format!("`sort` has no option '{}'", option))
+}
+
+/// The words behind a command, parted: options with their values, and files.
+struct Parted {
+    options: Vec<(String, Option<String>)>,
+    files: Vec<String>,
+}
+
+impl Parted {
+    /// Which options have no value and which have one is asked. `--` ends the options, and `-` is a file.
+    fn of(
+        words: &[String],
+        flags: &[&str],
+        valued: impl Fn(&str) -> bool,
+        none: impl Fn(&str) -> String,
+    ) -> Result<Parted, Trouble> {
+        let (mut options, mut files) = (Vec::new(), Vec::new());
+        let mut rest = words.iter();
+        while let Some(word) = rest.next() {
+            if word.is_empty() {
+                return usage("a file's name is empty".to_string());
+            } else if word == "--" {
+                files.extend(rest.by_ref().cloned());
+            } else if word == "-" || !word.starts_with('-') {
+                files.push(word.clone());
+            } else if flags.contains(&word.as_str()) {
+                options.push((word.clone(), None));
+            } else {
+                let (name, value) = joined(word, &valued);
+                if flags.contains(&name) {
+                    return usage(format!("{}: it has no value", name));
+                } else if !valued(name) {
+                    return usage(none(name));
+                }
+                let value = value.map(str::to_string).or_else(|| rest.next().cloned());
+                match value {
+                    Some(value) => options.push((name.to_string(), Some(value))),
+                    None => return usage(format!("{}: its value is missing", name)),
+                }
             }
-            file => files.push(file.to_string()),
+        }
+        if files.iter().any(|file| file.is_empty()) {
+            return usage("a file's name is empty".to_string());
+        }
+        Ok(Parted { options, files })
+    }
+
+    fn has(&self, option: &str) -> bool {
+        self.options.iter().any(|(name, _)| name == option)
+    }
+
+    /// The form that is asked for.
+    fn form(&self) -> Result<Form, Trouble> {
+        match (self.has("--csv"), self.has("--json")) {
+            (true, true) => usage("--csv beside --json: one of them, or neither".to_string()),
+            (true, false) => Ok(Form::Csv),
+            (false, true) => Ok(Form::Json),
+            (false, false) => Ok(Form::Table),
         }
     }
+
+    /// The files, where they aren't more than that, and standard input is one of them at the most.
+    fn files(self, most: usize) -> Result<Vec<String>, Trouble> {
+        if self.files.len() > most {
+            return usage(format!("'{}' is one file too many", self.files[most]));
+        }
+        if self.files.iter().filter(|file| *file == "-").count() > 1 {
+            return usage("'-': standard input is one file, and there it is twice".to_string());
+        }
+        Ok(self.files)
+    }
+}
+
+/// An option and the value that is written into its word: -c10, --floor=1e-12.
+fn joined<'a>(word: &'a str, valued: &impl Fn(&str) -> bool) -> (&'a str, Option<&'a str>) {
+    if word.starts_with("--") {
+        return match word.split_once('=') {
+            Some((name, value)) => (name, Some(value)),
+            None => (word, None),
+        };
+    }
+    // The second sign may be of more than one byte.
+    let end = word.chars().take(2).map(char::len_utf8).sum();
+    let (name, value) = word.split_at(end);
+    match !valued(word) && valued(name) && !value.is_empty() {
+        true => (name, Some(value)),
+        false => (word, None),
+    }
+}
+
+/// The settings that options make, parted by spaces.
+pub fn settings(options: &str) -> Result<Settings, Trouble> {
+    let words: Vec<String> = options.split(' ').map(str::to_string).collect();
+    let none = |name: &str| format!("there is no option '{}'", name);
+    let parted = Parted::of(&words, &[], has_value, none)?;
+    let mut settings = Settings::USUAL;
+    for (name, value) in &parted.options {
+        set(&mut settings, name, value.as_deref().unwrap_or_default())?;
+    }
+    match parted.files.first() {
+        Some(file) => usage(format!("'{}' is no option", file)),
+        None => Ok(settings),
+    }
+}
+
+/// The flags of what trains.
+const FLAGS: [&str; 5] = ["-q", "--part", "--write-anyway", "--csv", "--json"];
+
+fn call(command: Command, words: &[String]) -> Result<Words, Trouble> {
+    let none = |name: &str| format!("there is no option '{}'", name);
+    let parted = Parted::of(words, &FLAGS, has_value, none)?;
+    let mut settings = Settings::USUAL;
+    for (name, value) in &parted.options {
+        match value {
+            Some(value) => set(&mut settings, name, value)?,
+            None => match name.as_str() {
+                "-q" => settings.quiet = true,
+                "--part" => settings.part = true,
+                "--write-anyway" => settings.anyway = true,
+                _ => settings.form = parted.form()?,
+            },
+        }
+        settings.given.push(name.clone());
+    }
+    fits_together(command, &settings)?;
+    let most = if command == Command::Train { 2 } else { 1 };
+    if parted.files.get(1).map(String::as_str) == Some("-") {
+        return usage("'-' is standard input: a model goes to a file".to_string());
+    }
+    let mut files = parted.files(most)?.into_iter();
+    match (files.next(), files.next()) {
+        (None, _) => usage("a file is missing".to_string()),
+        (Some(file), None) if file == "-" && command == Command::Train => {
+            usage("FILE is standard input: MODEL, where the model goes, is missing".to_string())
+        }
+        (Some(file), model) => Ok(Words::Call(Call {
+            command,
+            file,
+            model,
+            settings,
+        })),
+    }
+}
+
+/// The words behind `sort` or `decide`.
+fn sorting(command: &str, flags: &[&str], words: &[String]) -> Result<Sorting, Trouble> {
+    let none = |name: &str| format!("`{}` has no option '{}'", command, name);
+    let parted = Parted::of(words, flags, |_| false, none)?;
+    let (tally, labels) = (parted.has("--votes"), parted.has("--labels"));
     if tally && labels {
         return usage("--votes beside --labels: one of them, or neither".to_string());
     }
-    if files.len() > 2 {
-        return usage(format!("'{}' is one file too many", files[2]));
-    }
-    let mut files = files.into_iter();
+    let (quiet, form) = (parted.has("-q"), parted.form()?);
+    let mut files = parted.files(2)?.into_iter();
     match (files.next(), files.next()) {
-        (Some(model), Some(file)) => Ok(Words::Sort(Sorting {
+        (Some(model), Some(file)) => Ok(Sorting {
             model,
             file,
             tally,
             labels,
             quiet,
+            form,
+        }),
+        _ => usage(format!(
+            "a file is missing: `{}` has a model, then captions",
+            command
+        )),
+    }
+}
+
+/// The words behind `show`.
+fn showing(words: &[String]) -> Result<Words, Trouble> {
+    let none = |name: &str| format!("`show` has no option '{}'", name);
+    let parted = Parted::of(words, &[], |_| false, none)?;
+    let mut files = parted.files(2)?.into_iter();
+    match files.next() {
+        Some(model) => Ok(Words::Show(Showing {
+            model,
+            file: files.next(),
         })),
-        _ => usage("a file is missing: `sort` has a model, then captions".to_string()),
+        None => usage("a file is missing: `show` has a model".to_string()),
     }
 }
 
 /// Whether the options make sense beside each other.
 fn fits_together(command: Command, s: &Settings) -> Result<(), Trouble> {
     let trail = command == Command::Trail;
-    let own = [("--sample", &s.sample), ("--captions", &s.captions)];
-    if let Some((option, _)) = own.iter().find(|(_, value)| value.is_some() && !trail) {
-        return usage(format!("{}: only `trail` has it", option));
+    let lists = trail || command == Command::Weights;
+    let weights = command == Command::Weights;
+    for (option, whose, has) in [
+        ("--sample", "`weights` and `trail` have", lists),
+        ("--captions", "`weights` and `trail` have", lists),
+        ("--csv", "`weights` and `decide` have", weights),
+        ("--json", "`weights` and `decide` have", weights),
+        ("--write-anyway", "`train` has", command == Command::Train),
+    ] {
+        if !has && s.given.iter().any(|given| given == option) {
+            return usage(format!("{}: only {} it", option, whose));
+        }
     }
     if s.pair.is_some() && s.fit == Fit::OneClass {
         return usage("--pair: with -s 2 there is one class".to_string());
@@ -301,7 +498,7 @@ fn set(s: &mut Settings, option: &str, value: &str) -> Result<(), Trouble> {
         }
         "--retired" => s.retired = Some(value.to_string()),
         "--sample" if s.sample.is_some() => {
-            return usage("--sample: it is there twice; one sample is followed".to_string())
+            return usage("--sample: it is there twice; one sample is told of".to_string())
         }
         "--sample" => s.sample = Some(value.to_string()),
         "--captions" => s.captions = Some(value.to_string()),
@@ -381,6 +578,27 @@ mod tests {
     }
 
     #[test]
+    fn values_may_be_joined_and_files_may_look_like_options() {
+        let c = call("train -s1 -c10 -e1e-7 -h1 -n.25 -w-1 3 --budget=9 --floor=1e-12 -- -c");
+        let s = &c.settings;
+        assert_eq!((s.fit, s.cost, s.nu, s.eps), (Fit::Nu, 10.0, 0.25, 1e-7));
+        assert_eq!((s.shrinking, s.budget, s.floor), (true, 9, 1e-12));
+        assert_eq!((&s.weights[..], c.file.as_str()), (&[(-1, 3.0)][..], "-c"));
+        let c = call("train --pair=7,-1 --retired=a=b --part --write-anyway -- -q --help");
+        assert_eq!(c.settings.pair, Some([7, -1]));
+        assert_eq!(c.settings.retired.as_deref(), Some("a=b"));
+        assert!(c.settings.part && c.settings.anyway && !c.settings.quiet);
+        assert_eq!((c.file.as_str(), c.model_path().as_str()), ("-q", "--help"));
+        assert_eq!(call("weights --csv a").settings.form, Form::Csv);
+        assert_eq!(call("weights --json -").settings.form, Form::Json);
+        assert_eq!(call("weights -").file, "-");
+        // What a model records is read back as it was given.
+        let s = settings("-s 0 -c 2.5 -w-1 3.0 -e 0.001 -h 1 --budget 9 --floor 1e-12").unwrap();
+        assert_eq!((s.cost_of(-1), s.cost_of(1), s.budget), (7.5, 2.5, 9));
+        assert!(settings("-s 0 a").is_err() && settings("-q").is_err() && settings("").is_err());
+    }
+
+    #[test]
     fn the_words_of_sort_are_read() {
         let sorting = |line| match parsed(line) {
             Ok(Words::Sort(sorting)) => sorting,
@@ -392,6 +610,21 @@ mod tests {
         assert!(sorting("sort --votes a b").tally);
         let quiet = sorting("sort a --labels b -q");
         assert!(quiet.labels && quiet.quiet && !quiet.tally);
+        match parsed("show a.model b") {
+            Ok(Words::Show(asked)) => {
+                assert_eq!(
+                    (&asked.model[..], asked.file.as_deref()),
+                    ("a.model", Some("b"))
+                )
+            }
+            _ => panic!(),
+        }
+        match parsed("decide --csv - b") {
+            Ok(Words::Decide(asked)) => {
+                assert_eq!((&asked.model[..], asked.form), ("-", Form::Csv))
+            }
+            _ => panic!(),
+        }
     }
 
     #[test]
@@ -459,7 +692,7 @@ mod tests {
             ("trail --sample 1 a b", "'b' is one file too many"),
             (
                 "trail --sample 1 --sample 2 a",
-                "--sample: it is there twice; one sample is followed",
+                "--sample: it is there twice; one sample is told of",
             ),
             (
                 "trail --sample 1 -h 1 a",
@@ -473,8 +706,58 @@ mod tests {
                 "trail --sample 1 --retired 2 -s 2 a",
                 "--retired: only -s 0 trains with retired samples",
             ),
-            ("weights --sample 1 a", "--sample: only `trail` has it"),
-            ("train --captions 1 a", "--captions: only `trail` has it"),
+            (
+                "check --sample 1 a",
+                "--sample: only `weights` and `trail` have it",
+            ),
+            (
+                "train --captions 1 a",
+                "--captions: only `weights` and `trail` have it",
+            ),
+            (
+                "train --csv a",
+                "--csv: only `weights` and `decide` have it",
+            ),
+            (
+                "trail --sample 1 --json a",
+                "--json: only `weights` and `decide` have it",
+            ),
+            (
+                "weights --write-anyway a",
+                "--write-anyway: only `train` has it",
+            ),
+            (
+                "weights --csv --json a",
+                "--csv beside --json: one of them, or neither",
+            ),
+            ("weights --csv=1 a", "--csv: it has no value"),
+            ("train -cx a", "-c: 'x' is not a number"),
+            ("train -c=1 a", "-c: '=1' is not a number"),
+            ("train --floor= a", "--floor: '' is not a number"),
+            ("train -q1 a", "there is no option '-q1'"),
+            ("train -č1 a", "there is no option '-č1'"),
+            ("train -- -c 1 2", "'2' is one file too many"),
+            ("train --", "a file is missing"),
+            ("train a -", "'-' is standard input: a model goes to a file"),
+            (
+                "train -",
+                "FILE is standard input: MODEL, where the model goes, is missing",
+            ),
+            (
+                "sort - -",
+                "'-': standard input is one file, and there it is twice",
+            ),
+            ("help tame", "there is no command 'tame'"),
+            ("help train sort", "'sort' is one word too many"),
+            ("show", "a file is missing: `show` has a model"),
+            ("show -c 1 a", "`show` has no option '-c'"),
+            ("show a b c", "'c' is one file too many"),
+            (
+                "decide a",
+                "a file is missing: `decide` has a model, then captions",
+            ),
+            ("decide --votes a b", "`decide` has no option '--votes'"),
+            ("sort --csv a b", "`sort` has no option '--csv'"),
             (
                 "train --retired 1 -s 1 a",
                 "--retired: only -s 0 trains with retired samples",

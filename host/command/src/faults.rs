@@ -3,8 +3,8 @@ use crate::arguments::{Fit, Settings};
 use crate::model::double;
 use crate::problem::{Samples, HEAD};
 use crate::several::places;
-use crate::Trouble;
-use altuliscia::{Refusal, MOST_PASSES, MOST_SAMPLES};
+use crate::{training, Trouble};
+use altuliscia::{Caution, Refusal, MOST_PASSES, MOST_SAMPLES};
 use std::collections::BTreeSet;
 
 /// 2^1000.
@@ -12,45 +12,114 @@ fn limit() -> f64 {
     2.0_f64.powi(1000)
 }
 
-/// Every fault, in the order of the refusals and by index, and what is wrong with the list of retired samples where refusal 12 would stand.
-/// Without such a list the first is what the library would answer.
-pub fn faults(
+/// What is to be told before a training.
+#[derive(Default)]
+pub struct Judged {
+    /// Where there is one, nothing is trained.
+    pub faults: Vec<Trouble>,
+    /// What is trained all the same, and who trains should know.
+    pub notes: Vec<String>,
+}
+
+/// Every fault, in the order of the refusals and by index, and what is wrong with the list of retired samples where refusal 12 would stand;
+/// then what isn't refused and can't be met. Without such a list the first refusal is what the library would answer.
+pub fn judged(
     s: &Samples,
     settings: &Settings,
     ceilings: (f64, f64),
     listed: Vec<Trouble>,
-) -> Vec<Trouble> {
-    with_settings(given(s, settings, ceilings), settings, listed)
+) -> Judged {
+    let given = given(s, settings, ceilings);
+    let own = match given.is_empty() {
+        true => cautions(s, settings, ceilings),
+        false => Judged::default(),
+    };
+    let mut faults = with_settings(given, settings, listed);
+    faults.extend(own.faults);
+    Judged {
+        faults,
+        notes: own.notes,
+    }
 }
 
-/// Of more than two classes: the faults of every pair, each told once, with the first pair that meets it; then those of the settings.
-pub fn of_pairs(
-    s: &Samples,
-    settings: &Settings,
-    costs: &[f64],
-    listed: Vec<Trouble>,
-) -> Vec<Trouble> {
+/// Of more than two classes: what there is to tell of every pair, once, with the first pair that meets it; then the faults of the settings.
+pub fn of_pairs(s: &Samples, settings: &Settings, costs: &[f64], listed: Vec<Trouble>) -> Judged {
     let mut seen = BTreeSet::new();
-    let mut all = Vec::new();
+    let (mut all, mut last) = (Vec::new(), Judged::default());
     for (first, second) in places(s.classes.len()) {
-        let pair = s.pair(first, second);
+        let (pair, ceilings) = (s.pair(first, second), (costs[first], costs[second]));
         let named = format!("in the pair {} {}", pair.classes[0], pair.classes[1]);
-        for fault in given(&pair, settings, (costs[first], costs[second])) {
-            all.push(match fault {
-                Trouble::Refused(place, refusal) if refusal == Refusal::Samples => {
-                    Trouble::Refused(format!("{} {}", place, named), refusal)
-                }
-                Trouble::Refused(place, refusal) => {
-                    if !seen.insert(place.clone()) {
-                        continue;
-                    }
-                    Trouble::Refused(format!("{}, {}", place, named), refusal)
-                }
-                other => other,
+        let given = given(&pair, settings, ceilings);
+        if given.is_empty() {
+            let own = cautions(&pair, settings, ceilings);
+            last.faults
+                .extend(own.faults.into_iter().map(|fault| match fault {
+                    Trouble::Usage(text) => Trouble::Usage(format!("{}, {}", text, named)),
+                    other => other,
+                }));
+            // A note has its kind before the first colon but one.
+            let new = own.notes.into_iter().filter(|note| {
+                let kind = note.splitn(3, ':').nth(1).unwrap_or_default();
+                seen.insert(kind.to_string())
             });
+            last.notes
+                .extend(new.map(|note| format!("{}, {}", note, named)));
+        }
+        all.extend(given.into_iter().filter_map(|fault| {
+            match fault {
+                Trouble::Refused(place, refusal) if refusal == Refusal::Samples => {
+                    Some(Trouble::Refused(format!("{} {}", place, named), refusal))
+                }
+                Trouble::Refused(place, refusal) => seen
+                    .insert(place.clone())
+                    .then(|| Trouble::Refused(format!("{}, {}", place, named), refusal)),
+                other => Some(other),
+            }
+        }));
+    }
+    let mut faults = with_settings(all, settings, listed);
+    faults.extend(last.faults);
+    Judged {
+        faults,
+        notes: last.notes,
+    }
+}
+
+/// What the library accepts, and yet is mostly a mistake: a nu that can't be met is a fault of the words.
+fn cautions(s: &Samples, settings: &Settings, ceilings: (f64, f64)) -> Judged {
+    let mut judged = Judged::default();
+    let labels = s.positive();
+    for caution in training(s, settings, ceilings, &labels).cautions() {
+        match caution {
+            Caution::InfeasibleNu {
+                nu,
+                positive,
+                negative,
+            } => {
+                let rarer = s.classes[usize::from(negative < positive)];
+                judged.faults.push(Trouble::Usage(format!(
+                    "-n {} can't be met: half of it times {} samples is above {}, the number of those of label {}",
+                    double(nu), positive + negative, positive.min(negative), rarer
+                )));
+            }
+            Caution::Asymmetric {
+                column,
+                row,
+                entry,
+                mirrored,
+                count,
+            } => judged.notes.push(format!(
+                "note: the kernel isn't symmetric: serial {} has {} with serial {}, which has {} with it; {} of two samples differ so, and none by more",
+                s.serials[column], double(entry), s.serials[row], double(mirrored), count
+            )),
+            Caution::UnequalCeilings => judged.notes.push(format!(
+                "note: the costs differ: label {} has {}, label {} has {}; it isn't promised then that every weight lies in 0..ceiling",
+                s.classes[0], double(ceilings.0), s.classes[1], double(ceilings.1)
+            )),
+            other => judged.notes.push(format!("note: {}", other)),
         }
     }
-    with_settings(all, settings, listed)
+    judged
 }
 
 /// The faults of what is given, then those of the settings, and what is wrong with the list of retired samples.
@@ -58,7 +127,7 @@ fn with_settings(mut all: Vec<Trouble>, settings: &Settings, listed: Vec<Trouble
     all.extend(of_settings(settings));
     all.extend(listed);
     if settings.retired.is_some() && settings.shrinking {
-        let place = "-h 1 beside --retired (leave -h 1 out)".to_string();
+        let place = "--retired".to_string();
         all.push(Trouble::Refused(place, Refusal::RetiredShrinking));
     }
     all
@@ -91,7 +160,7 @@ fn given(s: &Samples, settings: &Settings, ceilings: (f64, f64)) -> Vec<Trouble>
             let class = s.classes.get(index as usize).copied().unwrap_or_default();
             add(
                 Refusal::Ceiling { index },
-                format!("-c, -w: the cost of label {} is {}", class, double(c)),
+                format!("that of label {} is {}", class, double(c)),
             );
         }
     }
@@ -104,10 +173,10 @@ fn of_settings(settings: &Settings) -> Vec<Trouble> {
     let mut add = |refusal: Refusal, place: String| all.push(Trouble::Refused(place, refusal));
     let part = |x: f64| x > 0.0 && x <= 1.0;
     if !settings.eps.is_finite() || settings.eps.is_sign_negative() {
-        add(Refusal::Eps, format!("-e {}", double(settings.eps)));
+        add(Refusal::Eps, format!("it is {}", double(settings.eps)));
     }
     if settings.fit != Fit::C && !part(settings.nu) {
-        add(Refusal::Nu, format!("-n {}", double(settings.nu)));
+        add(Refusal::Nu, format!("it is {}", double(settings.nu)));
     }
     if settings.budget == 0 || settings.budget > MOST_PASSES {
         let more = if settings.budget == u64::MAX {
@@ -117,11 +186,11 @@ fn of_settings(settings: &Settings) -> Vec<Trouble> {
         };
         add(
             Refusal::Budget,
-            format!("--budget {}{}", settings.budget, more),
+            format!("it is {}{}", settings.budget, more),
         );
     }
     if !part(settings.floor) {
-        let place = format!("--floor {}", double(settings.floor));
+        let place = format!("it is {}", double(settings.floor));
         add(Refusal::Floor, place);
     }
     all
@@ -155,7 +224,7 @@ fn lengths(s: &Samples) -> String {
             8 * s.n * s.n,
             s.n
         ),
-        false => s.path.clone(),
+        false => format!("{}: what follows n is as long as no n has it", s.path),
     }
 }
 
@@ -225,6 +294,20 @@ mod tests {
         refused.map(|(_, number, index)| (number, index)).collect()
     }
 
+    /// The faults that are refusals, and whether there is one behind them, of a nu that can't be met.
+    fn faults(
+        s: &Samples,
+        t: &Settings,
+        c: (f64, f64),
+        listed: Vec<Trouble>,
+    ) -> (Vec<Trouble>, bool) {
+        let mut all = judged(s, t, c, listed).faults;
+        let unmet =
+            matches!(all.last(), Some(Trouble::Usage(text)) if text.contains("can't be met"));
+        all.truncate(all.len() - usize::from(unmet));
+        (all, unmet)
+    }
+
     fn samples(n: usize, matrix: Vec<f64>, labels: Vec<u8>) -> Samples {
         Samples {
             path: "a".to_string(),
@@ -234,6 +317,7 @@ mod tests {
             retired: vec![false; n],
             lines: Vec::new(),
             classes: vec![1, 0],
+            width: n,
             labels,
         }
     }
@@ -256,7 +340,7 @@ mod tests {
             1.0000000000000002,
         ];
         let mut drawn = Drawn(1);
-        let mut counts = [0; 15];
+        let (mut counts, mut unmets) = ([0; 15], 0);
         // The order of the refusals.
         let place = |(number, index): &(u64, u64)| match number {
             14 => (11, 0),
@@ -281,7 +365,15 @@ mod tests {
                 t.retired = Some(String::new());
                 s.retired.fill_with(|| drawn.below(2) == 0);
             }
-            let all = numbers(&faults(&s, &t, c, Vec::new()));
+            let (all, unmet) = faults(&s, &t, c, Vec::new());
+            let all = numbers(&all);
+            let first = s.labels.iter().filter(|label| **label == 1).count();
+            let rarer = first.min(n - first) as f64;
+            // The library trains it all the same.
+            if unmet {
+                assert!(t.fit == Fit::Nu && t.nu * n as f64 / 2.0 > rarer);
+                unmets += 1;
+            }
             // What only a run can tell has no fault.
             let theirs = crate::answered(&s, &t, c).err();
             let theirs = theirs.filter(|r| *r != Refusal::ShrunkAway);
@@ -294,6 +386,7 @@ mod tests {
         for number in [0, 1, 2, 3, 5, 8, 9, 10, 13, 14] {
             assert!(counts[number] > 20, "{:?}", counts);
         }
+        assert!(unmets > 100, "{}", unmets);
     }
 
     #[test]
@@ -307,7 +400,7 @@ mod tests {
             ..Settings::USUAL
         };
         assert_eq!(
-            numbers(&faults(&s, &t, (0.0, f64::NAN), Vec::new())),
+            numbers(&faults(&s, &t, (0.0, f64::NAN), Vec::new()).0),
             [
                 (3, 0),
                 (3, 3),
@@ -320,7 +413,7 @@ mod tests {
                 (14, 0)
             ]
         );
-        let all = faults(&s, &t, (1.0, 1.0), Vec::new());
+        let (all, _) = faults(&s, &t, (1.0, 1.0), Vec::new());
         let places = all.iter().map(|fault| refused(fault).0);
         assert_eq!(
             places.collect::<Vec<_>>(),
@@ -329,9 +422,9 @@ mod tests {
                 "a: byte 40",
                 "a: byte 48",
                 "a: byte 49",
-                "-e -0.0",
-                "--budget 0",
-                "--floor 1.0000000000000002"
+                "it is -0.0",
+                "it is 0",
+                "it is 1.0000000000000002"
             ]
         );
     }
@@ -349,6 +442,7 @@ mod tests {
                 (1.0, 1.0),
                 Vec::new(),
             )
+            .0
             .len()
         };
         assert_eq!((of(Fit::C), of(Fit::Nu), of(Fit::OneClass)), (1, 1, 0));
@@ -365,7 +459,7 @@ mod tests {
             ..Settings::USUAL
         };
         let listed = vec![Trouble::Usage("a list".to_string())];
-        let all = faults(&s, &t, (1.0, 1.0), listed);
+        let (all, _) = faults(&s, &t, (1.0, 1.0), listed);
         let statuses: Vec<u8> = all.iter().map(Trouble::status).collect();
         assert_eq!(statuses, [20, 24, 2, 23]);
     }

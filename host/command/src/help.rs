@@ -6,9 +6,14 @@ pub const VERSION: &str = concat!("altuliscia ", env!("CARGO_PKG_VERSION"), "\n"
 macro_rules! statuses {
     () => {
         "Exit status: 0 done, 2 the words make no sense, 3 a file can't be read, or holds no problem, model,
-list of serial numbers or captions, 4 something can't be written, 5 a trail isn't what the library
-answers, which is a fault of this program, 10 + N the library's refusal N (11 to 24). What was wrong
-is told on standard error.
+list of serial numbers or captions, 4 something can't be written, 5 a trail or a decision isn't what
+the library answers, which is a fault of this program, 6 it was done, but what was trained isn't to
+be released, 7 a model doesn't say that it was trained on FILE, 10 + N the library's refusal N (11
+to 24). What was wrong is told on standard error.
+
+Not to be released is what ended since its budget ran out, what has a rho that isn't finite or with
+-s 1 an r that is 0 or not finite, and what has no weight above 100*2^-52 in magnitude
+(docs/PROMISES.md).
 "
     };
 }
@@ -21,18 +26,21 @@ macro_rules! options {
   label 0:serial 1:K(1) 2:K(2) ..
 
 The label is a whole number, serial is the sample's own number from 1 on, and K(j) is its kernel
-value with the sample of number j; every value is written out, zeros too. Or FILE has the
-library's own bytes (docs/BYTES.md). At most 512 samples are trained. The label that is seen
-first is the first class; of -1 and +1, where there are no others, it is always +1, as in LIBSVM.
+value with the sample of number j; every value is written out, zeros too. Every j has one line, in
+any order. Or FILE has the library's own bytes (docs/BYTES.md). FILE may be -, standard input. At
+most 512 samples are trained. The label that is seen first is the first class; of -1 and +1, where
+there are no others, it is always +1, as in LIBSVM.
 
-Options, named as svm-train's where they mean the same:
+Options, named as svm-train's where they mean the same. -c10 is -c 10, --floor=1e-12 is
+--floor 1e-12, and -- ends the options:
 
   -s 0|1|2    two classes with a cost (0), two classes with nu (1), one class with nu (2)
               (usually 0)
   -c COST     the most that a weight may be, for -s 0 (usually 1); it is kept only where both
               classes have the same cost
   -wL FACTOR  multiplies the cost of label L, for -s 0: -w1 2, -w-1 0.5
-  -n NU       above 0 and not above 1, for -s 1 and -s 2 (usually 0.5)
+  -n NU       above 0 and not above 1, for -s 1 and -s 2 (usually 0.5). With -s 1 half of it times
+              the number of samples must not be above that of either label's, as in LIBSVM
   -e EPS      the run ends where no pair breaks the conditions by this much (usually 0.001)
   -h 0|1      shrinking (usually 0: off). svm-train has it on unless it is told otherwise; here
               it is off, since with -h 1 a run may end in refusal 11, and a model may sort worse
@@ -52,6 +60,7 @@ Options, named as svm-train's where they mean the same:
   --pair A,B  of a FILE with more than two labels: trains the samples of labels A and B alone, as
               those of a file with no other lines. The first class is the one that FILE has first.
               Needed by `weights` and `trail`, which tell of one training
+  --part      FILE has lines for some of the serial numbers only; without it that is a fault
   -t 4        a precomputed kernel; it is the only one there is and need not be said
   -q          says nothing where all is well; what isn't is told on standard error
 
@@ -67,12 +76,14 @@ the proved library libaltuliscia.a.
 
   altuliscia train FILE [MODEL]   trains, and writes a model file that LIBSVM's svm-predict reads
   altuliscia sort MODEL FILE      says which language each caption of FILE is in, by a model
-  altuliscia weights FILE         trains, and lists every sample with its weight
+  altuliscia decide MODEL FILE    says what each training of a model decides on each caption
+  altuliscia weights FILE         trains, and lists every sample with its weight; or lists a model's
+  altuliscia show MODEL [FILE]    says what a model records, and whether it was trained on FILE
   altuliscia check FILE           names all that the library would refuse, without training
   altuliscia trail --sample S FILE
                                   trains, and tells where the weight of serial number S came from
 
-`altuliscia COMMAND --help` tells of each, with its options. An example: the file small.txt has
+`altuliscia help COMMAND` tells of each, with its options. An example: the file small.txt has
 
   1 0:1 1:1 2:0
   2 0:2 1:0 2:1
@@ -89,18 +100,24 @@ pub const TRAIN: &str = concat!(
     "altuliscia train [OPTIONS] FILE [MODEL]
 
 Trains the problem of FILE, writes a model file and says how the run ended: the lines that
-svm-train ends with, the exit reason (threshold: no pair is left to mend, with -h 1: among the
-samples still active; iterations: the budget ran out), and a note where the model is worse than it
-looks; with --retired also who is retired, with --floor a floor that isn't the usual one.
-nSV counts the weights above 100*2^-52 in magnitude, and nBSV those of them that are at their
-ceiling or above it.
-With -q only the notes, and the exit reason where it is iterations, are told.
+svm-train ends with, the options, and the exit reason (threshold: no pair is left to mend, with -h
+1: among the samples still active; iterations: the budget ran out); with --retired also who is
+retired, with --floor a floor that isn't the usual one. nSV counts the weights above 100*2^-52 in
+magnitude, and nBSV those of them that are at their ceiling or above it. Notes are told on standard
+error: a kernel that isn't symmetric, costs that differ, what shrinking leaves out, weights that the
+Rust crate linfa-svm gives to others. With -q nothing else is told.
 
 MODEL is what LIBSVM's svm-predict reads for a precomputed kernel. Where it isn't named it is
 FILE's name with .model, in this folder. Its weights are each sample's own (the home reading), all
-that aren't 0; where these are more than nSV, a line says how many and why. It is written whole or
-not at all, and replaces neither FILE nor the file of --retired nor one that is read-only. A retired
-sample isn't in it, and every other is called by its own serial number.
+that aren't 0; where these are more than nSV, a line says how many and why. Behind them stand the
+options, who is retired, the exit reason and a hash of the samples, which `show` reads. It is
+written whole or not at all, and replaces neither FILE nor the file of --retired nor one that is
+read-only. A retired sample isn't in it, and every other is called by its own serial number. Where
+what was trained isn't to be released, no model is written, and the exit status is 6.
+
+  --write-anyway
+              writes the model all the same, which records why it isn't to be released. The exit
+              status is still 6
 
 FILE may have 2 to 12 labels, for as many languages. With more than two, every two languages are a
 pair that is trained by itself, on their own samples alone: the first with each other, then the
@@ -108,8 +125,8 @@ second with each behind it, and so on. The first is the one whose label FILE has
 that is the order of `label` in the model, in which the first is language 1, and in a pair it is the
 earlier one whose weights are positive. A pair has at most 512 samples, retired ones too; FILE may
 have more. What is told of a training is told of each pair, and at the end of which the budget ran
-out; with -q only what isn't well is told, with its pair. A sample stands in the model with a weight
-for each other language, where one of them isn't 0.
+out; a note has its pair. A sample stands in the model with a weight for each other language, where
+one of them isn't 0. Where one pair isn't to be released, the model isn't.
 
 ",
     options!(),
@@ -135,9 +152,11 @@ training sample of serial number j, written out up to the largest number in MODE
 
 Told are, a line for each caption: its line and its serial in FILE, its label there, the label that
 it is sorted to with its votes, the runner-up with its own, and `tie of ..` with the labels that
-share the most votes, where several do. Of those that FILE has a label for, the part that is sorted
-so is told on standard error, and how many ties there are. Where something in FILE is wrong, nothing
-but that is told.
+share the most votes, where several do, and `K(j) is nan` (or inf) where a value that has a say
+isn't finite. Of those that FILE has a label for, the part that is sorted so is told on standard
+error, and how many ties there are; and a note where MODEL isn't to be released, or a value isn't
+finite. Where something in FILE is wrong, nothing but that is told. MODEL or FILE may be -, standard
+input.
 
   --votes     tells the votes of every language, too, as LABEL:VOTES
   --labels    tells nothing but the label of each, a line each, which is what svm-predict writes
@@ -150,17 +169,81 @@ svm-predict sorts alike but where a sum less rho is exactly 0: there it votes fo
     statuses!()
 );
 
+pub const DECIDE: &str = concat!(
+    "altuliscia decide [OPTIONS] MODEL FILE
+
+Says what each training of MODEL decides on each caption of FILE: the sum over its lines in MODEL,
+those of its first language first, of weight times kernel value, less rho. MODEL and FILE are those
+of `sort`; MODEL may be of one class, too. From 0 on a decision speaks for the first label of its
+pair, else, and where it is NaN, for the second; of one class, from 0 on the caption is of the
+class. Each sign is compared with the library's own vote, and nothing is told where one differs
+(status 5).
+
+Told are, a line for each caption: its line and its serial in FILE, its label there, the label that
+it is sorted to (of one class 1 or -1), and each decision, with every digit, under the two labels of
+its pair, as --pair takes them, or `class`; and `K(j) is nan` (or inf) where a value that has a say
+isn't finite. What is told on standard error is that of `sort`, but for the ties.
+
+  --csv       lines of line,serial,label,sorted,finite and the decisions, under these names: finite
+              is false where a value that has a say isn't
+  --json      the same, a list of objects; `decisions` has each by its name. What isn't finite is a
+              string there
+  -q          tells nothing on standard error where all is well
+
+",
+    statuses!()
+);
+
+pub const SHOW: &str = concat!(
+    "altuliscia show MODEL [FILE]
+
+Says what MODEL has and what it records of its training: the version that wrote it, the options,
+who is retired, the exit reason, whether it is to be released, how many samples it was trained on,
+and their hash. A model that svm-train wrote, or altuliscia up to 1.5.0, has no record, which is
+said. A record that was changed or cut is refused, as by every command that reads a model. Where the
+model isn't to be released, the exit status is 6.
+
+With FILE beside it, says whether these are the samples that it was trained on, or, where FILE has
+more labels, those of its pair; else the exit status is 7. The hash is SHA-256 over n in eight
+bytes, the kernel matrix column by column in eight each, as the library got it, a byte for each
+label (two classes: 1 for the first, 0 for the second; more: the place of each, from 0 on; one
+class: none), and the serial numbers in eight each, the lowest byte first. It doesn't hang on who is
+retired.
+
+",
+    statuses!()
+);
+
 pub const WEIGHTS: &str = concat!(
     "altuliscia weights [OPTIONS] FILE
+altuliscia weights [OPTIONS] MODEL
 
 Trains the problem of FILE and lists every sample: its number from 0 on, its serial number in
 FILE, its label, its own weight (signed by its class), `at` where the weight is at its ceiling,
 `above` where it is above it, `retired` where the sample is retired (then its weight is 0), and
 what the Rust crate linfa-svm says, or would say with another floor, where that is another
 weight.
-The exit reason, rho and the notes of `train` are told on standard error, and who is retired, and a
-floor that isn't the usual one; with -q only the notes, and the exit reason where it is iterations.
-Where FILE has more than two labels, --pair says which two are trained. No file is written.
+The exit reason, rho and the options are told on standard error, who is retired, a floor that isn't
+the usual one, and the notes of `train`; with -q only the notes. Where what was trained isn't to be
+released, it is listed all the same, and the exit status is 6. Where FILE has more than two labels,
+--pair says which two are trained. No file is written.
+
+Where the file's first word is svm_type it is a MODEL: then nothing is trained, and what it has is
+listed, every weight that isn't 0 with its serial number, its label and the other label of its pair.
+What `show` tells of it is told on standard error. It takes only --pair, --sample, --csv, --json and
+-q.
+
+  --sample S  lists the sample of serial number S alone
+  --captions TEXTS
+              a text file with a caption for each sample of FILE, a line each in their order: then
+              the caption stands beside each
+  --csv       lines of sample,serial,label,against,weight,ceiling,mark,linfa_svm,caption,eps:
+              against is the other label, ceiling a number, mark at, above or retired. What isn't
+              known is empty
+  --json      an object with file, model (true or false), version, options, eps, retired, release
+              (true or false), unfit (why not), trainings (pair, rho and exit of each) and weights,
+              a list with the fields of --csv but eps. What isn't known is null, and what isn't
+              finite is a string
 
 ",
     options!(),
@@ -189,11 +272,12 @@ The list is made by a replay of the run and compared with the library's own call
 steps one whose budget ends before it and one whose budget ends with it, and the whole run. All
 weights must be the same, bit for bit; else nothing but that is told (status 5). Gradients, steps
 and who is first are the replay's: no call tells them. Each time that the sample was chosen takes
-two trainings. There is no trail with -h 1, nor with another floor than 1e-10. The exit reason, rho
-and the notes of `train` are told on standard error, and who is retired; with -q only the notes, and
-the exit reason where it is iterations. Where FILE has more than two labels, --pair says which two
-are trained: a sample has a weight in each pair that it is in. (TEXTS has a line for each sample of
-FILE all the same.) No file is written.
+two trainings. There is no trail with -h 1, nor with another floor than 1e-10. The exit reason, rho,
+the options and the notes of `train` are told on standard error, and who is retired; with -q only
+the notes. Where what was trained isn't to be released, the trail is told all the same, and the exit
+status is 6. Where FILE has more than two labels, --pair says which two are trained: a sample has a
+weight in each pair that it is in. (TEXTS has a line for each sample of FILE all the same.) No file
+is written.
 
 ",
     options!(),
@@ -204,10 +288,12 @@ pub const CHECK: &str = concat!(
     "altuliscia check [OPTIONS] FILE
 
 Reads FILE and names all that the library would refuse, in FILE and in the options, a line each on
-standard output: where it stands, the refusal's number and index, and what to do. What is wrong
-with the list of --retired is named, too. Refusal 11 can't be known without training. Where FILE has
-more than two labels, every pair is looked at, and what several would meet is named once, with the
-first. Nothing is trained and no file is written. The exit status is that of the first line.
+standard output: where it stands, what must be, and the refusal's number. What is wrong with the
+list of --retired is named, too, a serial number of two lines or of none, and a nu that can't be
+met. Notes are told on standard error: a kernel that isn't symmetric, costs that differ. Refusal 11
+can't be known without training. Where FILE has more than two labels, every pair is looked at, and
+what several would meet is named once, with the first. Nothing is trained and no file is written.
+The exit status is that of the first line.
 
 ",
     options!(),

@@ -2,15 +2,22 @@
 #![deny(missing_docs, unsafe_code)]
 
 mod arguments;
+mod decide;
 mod faults;
 mod help;
+mod input;
+mod list;
 mod model;
 mod problem;
 mod progress;
+mod record;
 mod report;
 mod retired;
 mod save;
+mod saved;
 mod several;
+mod sha256;
+mod show;
 mod sort;
 mod sorter;
 mod text;
@@ -21,7 +28,9 @@ pub use trouble::Trouble;
 
 use altuliscia::{Answer, OneClass, Options, Problem, Refusal, Training, Tuned};
 use arguments::{Call, Command, Fit, Settings, Words};
+use faults::Judged;
 use problem::Samples;
+use record::Record;
 use std::io::Write;
 
 /// Does what the words ask for and writes what it has to tell: to `out`, and what shouldn't stand there to `err`. A progress line is
@@ -36,6 +45,8 @@ pub fn run(
         Words::Help(text) => tell(out, text),
         Words::Call(call) => carried_out(&call, out, err, terminal),
         Words::Sort(asked) => sort::carried_out(&asked, out, err, terminal),
+        Words::Decide(asked) => decide::carried_out(&asked, out, err, terminal),
+        Words::Show(asked) => show::carried_out(&asked, out),
     }
 }
 
@@ -45,54 +56,175 @@ fn carried_out(
     err: &mut (dyn Write + Send),
     terminal: bool,
 ) -> Result<(), Trouble> {
-    let path = call.model_path();
     if call.command == Command::Train {
-        never_what_is_read(call, &path)?;
+        never_what_is_read(call, &call.model_path())?;
     }
     let settings = &call.settings;
-    let (samples, listed) = progress::shown(err, terminal, "reading", || read(call))?;
-    let all = samples.n;
+    let data = progress::shown(err, terminal, "reading", || input::read(&call.file))?;
+    if call.command == Command::Weights && saved::is_model(&data) {
+        return show::weights(call, &data, out, err);
+    }
+    let (samples, listed) = progress::shown(err, terminal, "reading", || read(call, &data))?;
+    drop(data);
+    let whole = Whole {
+        wrong: samples.misnumbered(settings.part),
+        n: samples.n,
+        serials: samples.serials.clone(),
+        classes: samples.classes.len(),
+    };
     let (samples, costs) = asked(samples, settings)?;
     if samples.classes.len() > 2 {
-        return several::carried_out(call, &samples, &costs, listed, out, err, terminal);
+        return several::carried_out(call, &samples, &costs, (whole, listed), out, err, terminal);
     }
     let ceilings = (costs[0], costs[1]);
-    let finger = trail::finger(&samples, settings, all)?;
-    let faults = faults::faults(&samples, settings, ceilings, listed);
+    let mut judged = faults::judged(&samples, settings, ceilings, listed);
+    judged.faults.splice(0..0, whole.wrong.iter().cloned());
+    let mut notes = judged.stand(call, &samples, out, err)?;
     if call.command == Command::Check {
-        return checked(&samples, settings, faults, out);
+        return Ok(());
     }
-    if let Some(first) = faults.into_iter().next() {
-        return Err(first);
-    }
-    let answer = match finger {
-        Some(finger) => {
+    let finger = trail::finger(&samples, settings, &whole)?;
+    let answer = match &finger {
+        Some(finger) if call.command == Command::Trail => {
             let followed = || trail::followed(&samples, settings, ceilings, finger.sample);
             let trail = progress::shown(err, terminal, "following", followed)?;
-            tell(out, &trail::text(&samples, settings, &finger, &trail))?;
+            tell(out, &trail::text(&samples, settings, finger, &trail))?;
             trail.answer
         }
-        None => {
+        _ => {
             let trained = || trained(&samples, settings, ceilings);
             progress::shown(err, terminal, "training", trained)?
         }
     };
-    if call.command == Command::Weights {
-        tell(out, &report::weights(&samples, settings, ceilings, &answer))?;
-    } else if call.command == Command::Train {
-        save::whole(&path, &model::text(&samples, settings, &answer))?;
-        if !settings.quiet {
-            return tell(out, &report::summary(&samples, settings, ceilings, &answer));
+    notes.extend(report::of_answer(&samples, settings, &answer));
+    notes.extend(report::of_shrinking(settings));
+    let told = Told {
+        call,
+        samples: &samples,
+        ceilings,
+        answer: &answer,
+        whole: &whole,
+    };
+    told.out(finger, out)?;
+    told.err(notes, err);
+    told.ended()
+}
+
+/// What is known of a whole file, where a pair of it is trained.
+struct Whole {
+    /// What is wrong with its serial numbers.
+    wrong: Vec<Trouble>,
+    n: usize,
+    serials: Vec<u64>,
+    classes: usize,
+}
+
+/// An answer, and what it is the answer to.
+struct Told<'a> {
+    call: &'a Call,
+    samples: &'a Samples,
+    ceilings: (f64, f64),
+    answer: &'a Answer,
+    whole: &'a Whole,
+}
+
+impl Told<'_> {
+    /// Writes the model, or the list; of a trail all was told.
+    fn out(&self, finger: Option<trail::Finger>, out: &mut dyn Write) -> Result<(), Trouble> {
+        let (s, settings, ceilings, answer) = (
+            self.samples,
+            &self.call.settings,
+            self.ceilings,
+            self.answer,
+        );
+        match self.call.command {
+            Command::Weights => {
+                let mut list = list::List::of(s, settings, ceilings, answer);
+                let captions = trail::captions(s, settings, self.whole)?;
+                list.captioned(&captions.unwrap_or_default());
+                if let Some(finger) = finger {
+                    list.rows.retain(|row| row.sample == Some(finger.sample));
+                }
+                tell(out, &list.text(settings))
+            }
+            Command::Train => {
+                let unfit = report::unfit(settings, answer);
+                if unfit.is_none() || settings.anyway {
+                    let record = Record::of(s, settings, &[answer.reason], unfit);
+                    let text = model::text(s, settings, answer);
+                    save::whole(&self.call.model_path(), &record.behind(&text))?;
+                }
+                match settings.quiet {
+                    true => Ok(()),
+                    false => tell(out, &report::summary(s, settings, ceilings, answer)),
+                }
+            }
+            _ => Ok(()),
         }
     }
-    // Where standard error takes nothing, there is no place left to say so.
-    let _ = err.write_all(report::beside(&samples, settings, &answer).as_bytes());
-    Ok(())
+
+    /// How the run ended, where no summary has told it, and the notes.
+    fn err(&self, notes: Vec<String>, err: &mut (dyn Write + Send)) {
+        let (s, settings) = (self.samples, &self.call.settings);
+        let mut lines = Vec::new();
+        if self.call.command != Command::Train && !settings.quiet {
+            lines = report::beside(s, settings, self.answer);
+            if self.whole.classes > 2 {
+                lines.insert(0, format!("pair: {} {}", s.classes[0], s.classes[1]));
+            }
+        }
+        lines.extend(notes);
+        noted(lines, err);
+    }
+
+    fn ended(&self) -> Result<(), Trouble> {
+        match report::unfit(&self.call.settings, self.answer) {
+            Some(why) => Err(unfit(self.call, why)),
+            None => Ok(()),
+        }
+    }
+}
+
+/// That what was trained isn't to be released, and what became of its model.
+fn unfit(call: &Call, why: String) -> Trouble {
+    let model = match (call.command, call.settings.anyway) {
+        (Command::Train, true) => format!("; {} was written all the same", call.model_path()),
+        (Command::Train, false) => "; no model was written (--write-anyway writes it)".to_string(),
+        _ => String::new(),
+    };
+    Trouble::Unfit(format!("not to be released: {}{}", why, model))
+}
+
+/// Lines for standard error. Where it takes nothing, there is no place left to say so.
+fn noted(lines: Vec<String>, err: &mut (dyn Write + Send)) {
+    let text: String = lines.into_iter().map(|line| line + "\n").collect();
+    let _ = err.write_all(text.as_bytes());
+}
+
+impl Judged {
+    /// What a check tells, and else the first fault. The notes are handed back; a check has told them.
+    fn stand(
+        self,
+        call: &Call,
+        s: &Samples,
+        out: &mut dyn Write,
+        err: &mut (dyn Write + Send),
+    ) -> Result<Vec<String>, Trouble> {
+        if call.command == Command::Check {
+            let done = checked(s, &call.settings, self.faults, out);
+            noted(self.notes, err);
+            return done.map(|()| Vec::new());
+        }
+        match self.faults.into_iter().next() {
+            Some(first) => Err(first),
+            None => Ok(self.notes),
+        }
+    }
 }
 
 /// The samples of a call, the retired ones marked, and what is wrong with the list of these.
-fn read(call: &Call) -> Result<(Samples, Vec<Trouble>), Trouble> {
-    let mut samples = problem::read(&call.file, call.settings.fit)?;
+fn read(call: &Call, data: &[u8]) -> Result<(Samples, Vec<Trouble>), Trouble> {
+    let mut samples = problem::read(input::name(&call.file), data, call.settings.fit)?;
     let listed = match &call.settings.retired {
         Some(list) => retired::mark(&mut samples, list)?,
         None => Vec::new(),
@@ -115,7 +247,7 @@ fn asked(samples: Samples, settings: &Settings) -> Result<(Samples, Vec<f64>), T
 fn never_what_is_read(call: &Call, path: &str) -> Result<(), Trouble> {
     let list = call.settings.retired.as_deref().and_then(retired::file);
     let what = match list {
-        _ if save::one_file(&call.file, path) => "problem itself",
+        _ if call.file != "-" && save::one_file(&call.file, path) => "problem itself",
         Some(list) if save::one_file(list, path) => "list of retired samples",
         _ => return Ok(()),
     };

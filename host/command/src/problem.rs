@@ -2,6 +2,7 @@
 use crate::arguments::Fit;
 use crate::Trouble;
 use altuliscia::MOST_LANGUAGES;
+use std::collections::BTreeMap;
 use std::sync::Arc;
 
 /// The first eight bytes of a file of own bytes.
@@ -28,6 +29,8 @@ pub struct Samples {
     pub retired: Vec<bool>,
     /// Each sample's line; nothing in a file of bytes.
     pub lines: Vec<Line>,
+    /// How many kernel values each line has.
+    pub width: usize,
 }
 
 /// A line of a text.
@@ -46,6 +49,30 @@ impl Samples {
             Some(line) => format!("{}:{}", self.path, line.number),
             None => format!("{}: byte {}", self.path, byte),
         }
+    }
+
+    /// What is wrong with the serial numbers of a text: one of two lines, or, where the file isn't a part, one of none.
+    pub fn misnumbered(&self, part: bool) -> Vec<Trouble> {
+        let mut seen = BTreeMap::new();
+        let mut wrong = Vec::new();
+        for (serial, line) in self.serials.iter().zip(&self.lines) {
+            let first = *seen.entry(*serial).or_insert(line.number);
+            if first != line.number {
+                wrong.push(Trouble::File(format!(
+                    "{}:{}: the serial number {} is that of line {}, too",
+                    self.path, line.number, serial, first
+                )));
+            }
+        }
+        let missing = (1..=self.width as u64).find(|serial| !seen.contains_key(serial));
+        match missing.filter(|_| !part && wrong.is_empty() && !self.lines.is_empty()) {
+            Some(serial) => wrong.push(Trouble::File(format!(
+                "{}: {} lines of {} kernel values each: the serial number {} has no line (--part takes a file that has some of the samples only)",
+                self.path, self.n, self.width, serial
+            ))),
+            None => {}
+        }
+        wrong
     }
 
     /// The one sample that has this serial number.
@@ -118,6 +145,7 @@ impl Samples {
             serials: kept.iter().map(|k| self.serials[*k]).collect(),
             retired: kept.iter().map(|k| self.retired[*k]).collect(),
             lines: kept.iter().map(|k| self.lines[*k].clone()).collect(),
+            width: self.width,
         }
     }
 
@@ -127,14 +155,14 @@ impl Samples {
     }
 }
 
-pub fn read(path: &str, fit: Fit) -> Result<Samples, Trouble> {
-    let data = std::fs::read(path).map_err(|e| Trouble::File(format!("{}: {}", path, e)))?;
+/// The samples of a file's bytes.
+pub fn read(path: &str, data: &[u8], fit: Fit) -> Result<Samples, Trouble> {
     if data.starts_with(MAGIC) {
-        return own(path, &data, fit).map_err(|text| Trouble::File(format!("{}: {}", path, text)));
+        return own(path, data, fit).map_err(|text| Trouble::File(format!("{}: {}", path, text)));
     }
     let told =
         |(line, text): (usize, String)| Trouble::File(format!("{}:{}: {}", path, line, text));
-    text(path, &data, fit).map_err(told)
+    text(path, data, fit).map_err(told)
 }
 
 /// A file of bytes. Lengths that don't fit n are left for the faults.
@@ -165,6 +193,7 @@ fn own(path: &str, data: &[u8], fit: Fit) -> Result<Samples, String> {
         retired: vec![false; serials.len()],
         serials,
         lines: Vec::new(),
+        width: n,
     })
 }
 
@@ -222,6 +251,7 @@ fn text(path: &str, data: &[u8], fit: Fit) -> Result<Samples, (usize, String)> {
         serials: rows.iter().map(|row| row.serial as u64).collect(),
         retired: vec![false; rows.len()],
         lines: kept,
+        width: rows.first().map_or(0, |row| row.values.len()),
     })
 }
 
@@ -389,6 +419,30 @@ mod tests {
         );
         let found = text("a", b"1 0:1 1:1\n\xff", Fit::C).map(|s| s.n);
         assert_eq!(found, Err((2, "not a text".to_string())));
+    }
+
+    #[test]
+    fn every_serial_number_has_one_line() {
+        let found = |data: &str, part: bool| -> Vec<String> {
+            let s = text("a", data.as_bytes(), Fit::C).unwrap();
+            let wrong = s.misnumbered(part);
+            wrong.iter().map(Trouble::to_string).collect()
+        };
+        let part = "a: 2 lines of 3 kernel values each: the serial number 3 has no line (--part takes a file that has some of the samples only)";
+        assert_eq!(found(SMALL, false), [part]);
+        assert_eq!(found(SMALL, true), [""; 0]);
+        let whole = format!("{}1 0:3 1:0 2:0 3:0\n", SMALL);
+        assert_eq!(found(&whole, false), [""; 0]);
+        // Both lines are named, of every such number, whether the file is a part or not.
+        let twice = format!("{0}{0}{0}", SMALL);
+        let told = [(3, 2, 1), (4, 1, 2), (5, 2, 1), (6, 1, 2)].map(|(line, serial, first)| {
+            format!(
+                "a:{}: the serial number {} is that of line {}, too",
+                line, serial, first
+            )
+        });
+        assert_eq!(found(&twice, false), told);
+        assert_eq!(found(&twice, true), told);
     }
 
     #[test]

@@ -2,7 +2,8 @@
 use crate::arguments::{Fit, Settings};
 use crate::model::{double, listed};
 use crate::problem::Samples;
-use altuliscia::{Answer, ExitReason, SUPPORT_LIMIT, USUAL_FLOOR};
+use crate::record;
+use altuliscia::{Answer, ExitReason, Unfit, SUPPORT_LIMIT, USUAL_FLOOR};
 use std::cmp::Ordering;
 
 /// A double as `%f` of C writes it, but for what would have more than sixteen digits before the point.
@@ -13,27 +14,38 @@ fn six(x: f64) -> String {
     }
 }
 
-/// Whether a sample's weight is `at` its ceiling or `above` it. Where r makes the ceiling 0 or infinite, nothing is.
-fn ceiling(
+/// The ceiling of a sample's weight. The nu fit divides its weights, and so their ceiling, by r, which may be negative.
+pub fn ceiling(s: &Samples, fit: Fit, ceilings: (f64, f64), answer: &Answer, k: usize) -> f64 {
+    match (fit, answer.r, s.labels.get(k)) {
+        (Fit::Nu, Some(r), _) => (1.0 / r).abs(),
+        (_, _, Some(0)) => ceilings.1,
+        _ => ceilings.0,
+    }
+}
+
+/// Whether a weight is `at` its ceiling or `above` it. Where r makes the ceiling 0 or infinite, nothing is.
+pub fn beside_ceiling(weight: f64, ceiling: f64) -> Option<&'static str> {
+    if ceiling == 0.0 || ceiling.is_infinite() {
+        return None;
+    }
+    match weight.abs().partial_cmp(&ceiling) {
+        Some(Ordering::Equal) => Some("at"),
+        Some(Ordering::Greater) => Some("above"),
+        _ => None,
+    }
+}
+
+/// What is said beside a sample's weight: `retired`, `at`, `above`.
+pub fn mark(
     s: &Samples,
     fit: Fit,
     ceilings: (f64, f64),
     answer: &Answer,
     k: usize,
 ) -> Option<&'static str> {
-    let ceiling = match (fit, answer.r, s.labels.get(k)) {
-        // The nu fit divides its weights, and so their ceiling, by r, which may be negative.
-        (Fit::Nu, Some(r), _) => (1.0 / r).abs(),
-        (_, _, Some(0)) => ceilings.1,
-        _ => ceilings.0,
-    };
-    if ceiling == 0.0 || ceiling.is_infinite() {
-        return None;
-    }
-    match answer.home[k].abs().partial_cmp(&ceiling) {
-        Some(Ordering::Equal) => Some("at"),
-        Some(Ordering::Greater) => Some("above"),
-        _ => None,
+    match s.retired[k] {
+        true => Some("retired"),
+        false => beside_ceiling(answer.home[k], ceiling(s, fit, ceilings, answer, k)),
     }
 }
 
@@ -42,17 +54,15 @@ fn differs(answer: &Answer, k: usize) -> bool {
     home != other && !(home.is_nan() && other.is_nan())
 }
 
-/// The lines that svm-train ends with, then why the run ended and what a reader should know of it.
+/// The lines that svm-train ends with, then with what it was trained and why the run ended.
 pub fn summary(s: &Samples, settings: &Settings, ceilings: (f64, f64), a: &Answer) -> String {
     let mut lines = finished(s, settings, ceilings, a);
     if settings.fit != Fit::OneClass {
         lines.push(format!("Total nSV = {}", a.support));
     }
     lines.extend(uncounted(a));
-    lines.extend(retired(s));
-    lines.extend(floor(settings));
+    lines.extend(of_all(s, settings));
     lines.push(ended(settings, a));
-    lines.extend(notes(s, settings, a));
     lines.join("\n") + "\n"
 }
 
@@ -75,34 +85,25 @@ fn finished(s: &Samples, settings: &Settings, ceilings: (f64, f64), a: &Answer) 
     // Of the weights that nSV counts.
     let bounded = (0..s.n)
         .filter(|k| a.home[*k].abs() > SUPPORT_LIMIT)
-        .filter(|k| ceiling(s, settings.fit, ceilings, a, *k).is_some())
+        .filter(|k| mark(s, settings.fit, ceilings, a, *k).is_some())
         .count();
     lines.push(format!("nSV = {}, nBSV = {}", a.support, bounded));
     lines
 }
 
-/// Of a pair among several: what is told of its training, the notes that hold of all pairs left out.
+/// Of a pair among several: what is told of its training.
 pub fn of_pair(s: &Samples, settings: &Settings, ceilings: (f64, f64), a: &Answer) -> Vec<String> {
     let mut lines = finished(s, settings, ceilings, a);
     lines.extend(uncounted(a));
     lines.push(ended(settings, a));
-    lines.extend(of_answer(s, settings, a));
     lines
 }
 
-/// Of a pair among several: only what isn't well.
-pub fn not_well(s: &Samples, settings: &Settings, a: &Answer) -> Vec<String> {
-    let mut lines = Vec::new();
-    if a.reason == ExitReason::Iterations {
-        lines.push(ended(settings, a));
-    }
-    lines.extend(of_answer(s, settings, a));
-    lines
-}
-
-/// What is told of all pairs together: who is retired, a floor that isn't the usual one.
+/// What is told of all pairs together: who is retired, a floor that isn't the usual one, the options.
 pub fn of_all(s: &Samples, settings: &Settings) -> Vec<String> {
-    retired(s).into_iter().chain(floor(settings)).collect()
+    let options = format!("options: {}", record::options(s, settings));
+    let first = retired(s).into_iter().chain(floor(settings));
+    first.chain([options]).collect()
 }
 
 /// Where the model lists more weights than nSV counts: how many it lists, and what the others are.
@@ -126,19 +127,11 @@ fn uncounted(a: &Answer) -> Option<String> {
     (all as u64 != a.support).then_some(told)
 }
 
-/// The lines for standard error, where no summary is told: how the run ended, or with -q only what isn't well.
-pub fn beside(s: &Samples, settings: &Settings, a: &Answer) -> String {
-    let mut lines = Vec::new();
-    if !settings.quiet || a.reason == ExitReason::Iterations {
-        lines.push(ended(settings, a));
-    }
-    if !settings.quiet {
-        lines.push(format!("rho = {}", double(a.rho)));
-        lines.extend(retired(s));
-        lines.extend(floor(settings));
-    }
-    lines.extend(notes(s, settings, a));
-    lines.into_iter().map(|line| line + "\n").collect()
+/// The lines for standard error, where no summary is told: how the run ended, and with what.
+pub fn beside(s: &Samples, settings: &Settings, a: &Answer) -> Vec<String> {
+    let mut lines = vec![ended(settings, a), format!("rho = {}", double(a.rho))];
+    lines.extend(of_all(s, settings));
+    lines
 }
 
 /// Who is retired, as --retired takes it.
@@ -172,30 +165,32 @@ fn ended(settings: &Settings, a: &Answer) -> String {
     }
 }
 
-/// What makes a model worse than it looks.
-fn notes(s: &Samples, settings: &Settings, a: &Answer) -> Vec<String> {
-    let mut notes = of_answer(s, settings, a);
-    notes.extend(of_shrinking(settings));
-    notes
+/// Why an answer isn't to be released (docs/PROMISES.md, 'What to do with it'), where it isn't.
+pub fn unfit(settings: &Settings, a: &Answer) -> Option<String> {
+    Some(match a.unfit()? {
+        Unfit::Budget => format!("the budget ran out, all {} of it", settings.budget),
+        Unfit::Scale => format!(
+            "r, by which the weights are divided, is {}",
+            double(a.r.unwrap_or_default())
+        ),
+        Unfit::Rho => format!(
+            "rho is {}, so everything is sorted into one and the same class{}",
+            double(a.rho),
+            if settings.shrinking {
+                "; train with -h 0"
+            } else {
+                ""
+            }
+        ),
+        other => other.to_string(),
+    })
 }
 
-fn of_answer(s: &Samples, settings: &Settings, a: &Answer) -> Vec<String> {
-    let mut notes = Vec::new();
-    if !a.rho.is_finite() {
-        let hint = if settings.shrinking {
-            "; train with -h 0"
-        } else {
-            ""
-        };
-        notes.push(format!(
-            "note: rho is {}, so everything is sorted into one and the same class{}",
-            double(a.rho),
-            hint
-        ));
-    }
+/// What the list that linfa-svm answers has otherwise.
+pub fn of_answer(s: &Samples, settings: &Settings, a: &Answer) -> Option<String> {
     let parted = (0..s.n).filter(|k| differs(a, *k)).count();
-    if parted > 0 {
-        notes.push(format!(
+    let told = || {
+        format!(
             "note: {} of {} samples have another weight in the list that linfa-svm {}; the model has each sample's own",
             parted,
             s.n,
@@ -204,48 +199,13 @@ fn of_answer(s: &Samples, settings: &Settings, a: &Answer) -> Vec<String> {
             } else {
                 "would answer with this floor"
             }
-        ));
-    }
-    notes
+        )
+    };
+    (parted > 0).then(told)
 }
 
 /// The note on shrinking, where it is on.
 pub fn of_shrinking(settings: &Settings) -> Option<String> {
     let note = "note: with -h 1 'threshold' speaks only of the samples still active, and obj and rho needn't be those of these weights; train with -h 0";
     settings.shrinking.then(|| note.to_string())
-}
-
-/// A line for each sample, with the crate's reading where it is another.
-pub fn weights(s: &Samples, settings: &Settings, ceilings: (f64, f64), a: &Answer) -> String {
-    let says = if settings.floor == USUAL_FLOOR {
-        "linfa-svm says"
-    } else {
-        "linfa-svm would say"
-    };
-    let mut lines = vec![format!(
-        "sample serial  label  weight                    ceiling  {}",
-        says
-    )];
-    for k in 0..s.n {
-        let other = if differs(a, k) {
-            double(a.crate_reading[k])
-        } else {
-            String::new()
-        };
-        let mark = match s.retired[k] {
-            true => Some("retired"),
-            false => ceiling(s, settings.fit, ceilings, a, k),
-        };
-        let line = format!(
-            "{:>6} {:>6} {:>6}  {:<24}  {:<7}  {}",
-            k,
-            s.serials[k],
-            s.label(k),
-            double(a.home[k]),
-            mark.unwrap_or_default(),
-            other
-        );
-        lines.push(line.trim_end().to_string());
-    }
-    lines.join("\n") + "\n"
 }

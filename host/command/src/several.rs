@@ -1,7 +1,8 @@
 //! Several languages: every two of them are trained by themselves, each as a file of these two would be.
 use crate::arguments::{Call, Command, Settings};
 use crate::problem::Samples;
-use crate::{answered, checked, faults, model, progress, report, save, tell, Trouble};
+use crate::record::Record;
+use crate::{answered, faults, model, noted, progress, report, save, tell, Trouble, Whole};
 use altuliscia::{pairs, Answer, ExitReason, SUPPORT_LIMIT};
 use std::io::Write;
 
@@ -15,10 +16,13 @@ pub struct Trained {
     /// Of each sample a weight for each other class, in their order: that of its pair with it. Those of other pairs aren't there.
     pub weights: Vec<Vec<f64>>,
     pub rhos: Vec<f64>,
-    /// What is told of each pair: its name, all of it, and what isn't well.
-    told: Vec<(String, Vec<String>, Vec<String>)>,
+    /// What is told of each pair: its name, its training, and a note on it.
+    told: Vec<(String, Vec<String>, Option<String>)>,
+    ends: Vec<ExitReason>,
     /// The pairs whose budget ran out.
     spent: Vec<String>,
+    /// The pairs that aren't to be released, each with its reason.
+    unfit: Vec<String>,
 }
 
 impl Trained {
@@ -31,6 +35,13 @@ impl Trained {
     fn counted(&self, k: usize) -> bool {
         let mut weights = self.weights[k].iter();
         weights.any(|weight| weight.abs() > SUPPORT_LIMIT)
+    }
+
+    /// The notes on the pairs, each with its pair.
+    fn notes(&self) -> Vec<String> {
+        let told = self.told.iter();
+        told.filter_map(|(name, _, note)| Some(format!("{}: {}", name, note.as_ref()?)))
+            .collect()
     }
 
     fn with(&mut self, s: &Samples, (first, second): (usize, usize), answer: &Answer) {
@@ -52,7 +63,7 @@ pub fn carried_out(
     call: &Call,
     s: &Samples,
     costs: &[f64],
-    listed: Vec<Trouble>,
+    (whole, listed): (Whole, Vec<Trouble>),
     out: &mut dyn Write,
     err: &mut (dyn Write + Send),
     terminal: bool,
@@ -61,24 +72,29 @@ pub fn carried_out(
     if call.command == Command::Weights || call.command == Command::Trail {
         return Err(third(call, s));
     }
-    let faults = faults::of_pairs(s, settings, costs, listed);
+    let mut judged = faults::of_pairs(s, settings, costs, listed);
+    judged.faults.splice(0..0, whole.wrong);
+    let mut notes = judged.stand(call, s, out, err)?;
     if call.command == Command::Check {
-        return checked(s, settings, faults, out);
-    }
-    if let Some(first) = faults.into_iter().next() {
-        return Err(first);
+        return Ok(());
     }
     let trained = progress::in_parts(err, terminal, |now| trained(s, settings, costs, now))?;
-    save::whole(
-        &call.model_path(),
-        &model::of_several(s, settings.fit, &trained),
-    )?;
-    if !settings.quiet {
-        return tell(out, &summary(s, settings, &trained));
+    let unfit = Some(trained.unfit.join("; ")).filter(|why| !why.is_empty());
+    if unfit.is_none() || settings.anyway {
+        let record = Record::of(s, settings, &trained.ends, unfit.clone());
+        let text = model::of_several(s, settings.fit, &trained);
+        save::whole(&call.model_path(), &record.behind(&text))?;
     }
-    // Where standard error takes nothing, there is no place left to say so.
-    let _ = err.write_all(beside(settings, &trained).as_bytes());
-    Ok(())
+    if !settings.quiet {
+        tell(out, &summary(s, settings, &trained))?;
+    }
+    notes.extend(trained.notes());
+    notes.extend(report::of_shrinking(settings));
+    noted(notes, err);
+    match unfit {
+        Some(why) => Err(crate::unfit(call, why)),
+        None => Ok(()),
+    }
 }
 
 /// The first sample of a third label, where two are wanted.
@@ -105,7 +121,9 @@ fn trained(
         weights: vec![vec![0.0; classes - 1]; s.n],
         rhos: Vec::new(),
         told: Vec::new(),
+        ends: Vec::new(),
         spent: Vec::new(),
+        unfit: Vec::new(),
     };
     for (k, (first, second)) in places(classes).enumerate() {
         let labels = format!("{} {}", s.classes[first], s.classes[second]);
@@ -116,13 +134,17 @@ fn trained(
         let answer = answered(&pair, settings, ceilings)
             .map_err(|refusal| Trouble::Refused(format!("{}: {}", s.path, name), refusal))?;
         trained.with(s, (first, second), &answer);
+        let unfit = report::unfit(settings, &answer);
+        let unfit = unfit.map(|why| format!("pair {}: {}", labels, why));
+        trained.unfit.extend(unfit);
         if answer.reason == ExitReason::Iterations {
             trained.spent.push(labels);
         }
+        trained.ends.push(answer.reason);
         trained.told.push((
             name,
             report::of_pair(&pair, settings, ceilings, &answer),
-            report::not_well(&pair, settings, &answer),
+            report::of_answer(&pair, settings, &answer),
         ));
     }
     Ok(trained)
@@ -149,7 +171,6 @@ fn summary(s: &Samples, settings: &Settings, trained: &Trained) -> String {
     }
     lines.extend(report::of_all(s, settings));
     lines.push(ended(settings, trained));
-    lines.extend(report::of_shrinking(settings));
     lines.join("\n") + "\n"
 }
 
@@ -166,15 +187,4 @@ fn ended(settings: &Settings, trained: &Trained) -> String {
             trained.spent.join(", ")
         ),
     }
-}
-
-/// What isn't well, a line each, with its pair.
-fn beside(settings: &Settings, trained: &Trained) -> String {
-    let told = trained.told.iter();
-    let lines = told.flat_map(|(name, _, not_well)| {
-        let named = move |line: &String| format!("{}: {}", name, line);
-        not_well.iter().map(named)
-    });
-    let lines = lines.chain(report::of_shrinking(settings));
-    lines.map(|line| line + "\n").collect()
 }

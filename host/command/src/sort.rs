@@ -1,19 +1,38 @@
 //! `sort`: which language each caption of a file is in, by the library's votes.
-use crate::arguments::Sorting;
+use crate::arguments::{Fit, Sorting};
+use crate::model::double;
 use crate::problem::entries;
+use crate::saved::Model;
 use crate::sorter::Sorter;
-use crate::{progress, tell, text, Trouble};
+use crate::{input, noted, progress, tell, text, Trouble};
 use altuliscia::Votes;
 use std::io::Write;
 
+/// A caption as a file has it.
+pub struct Caption {
+    /// The number of its line.
+    pub line: usize,
+    /// What it is called there.
+    pub serial: String,
+    /// Its label there, where it has one.
+    pub label: Option<i32>,
+    /// Its kernel values, as many as the model asks for, or more.
+    pub values: Vec<f64>,
+    /// The first serial number of the model with which its value isn't finite.
+    pub wild: Option<usize>,
+}
+
+impl Caption {
+    /// What isn't finite of it, behind a line.
+    pub fn mark(&self) -> String {
+        let mark = |k: usize| format!("  K({}) is {}", k, double(self.values[k - 1]));
+        self.wild.map_or(String::new(), mark)
+    }
+}
+
 /// A caption as it was sorted.
 struct Sorted {
-    /// The number of its line.
-    line: usize,
-    /// What it is called there.
-    serial: String,
-    /// Its label there, where it has one.
-    label: Option<i32>,
+    caption: Caption,
     votes: Votes,
 }
 
@@ -24,32 +43,60 @@ pub fn carried_out(
     terminal: bool,
 ) -> Result<(), Trouble> {
     let work = || {
-        let sorter = Sorter::read(&asked.model)?;
+        let model = Model::read(&asked.model)?;
+        let sorter = Sorter::of(&model);
+        if model.fit == Fit::OneClass {
+            return Err(Trouble::File(format!(
+                "{}:{}: svm_type one_class: a model of classes is needed, c_svc or nu_svc (`decide` takes this one)",
+                model.path, model.begins
+            )));
+        }
         let captions = captions(&asked.file, &sorter)?;
-        Ok((sorter, captions))
+        let captions = captions.into_iter().map(|caption| sorted(caption, &sorter));
+        let captions = captions.collect::<Result<Vec<_>, _>>()?;
+        Ok((model, sorter, captions))
     };
-    let (sorter, captions) = progress::shown(err, terminal, "sorting", work)?;
+    let (model, sorter, captions) = progress::shown(err, terminal, "sorting", work)?;
     tell(out, &list(asked, &sorter, &captions))?;
+    let mut lines = notes(&model, captions.iter().map(|c| &c.caption));
     if !asked.quiet {
-        // Where standard error takes nothing, there is no place left to say so.
-        let _ = err.write_all(counted(&sorter, &captions).as_bytes());
+        lines.extend(counted(&sorter, &captions));
     }
+    noted(lines, err);
     Ok(())
 }
 
-/// The captions of a file, each with its votes.
-fn captions(path: &str, sorter: &Sorter) -> Result<Vec<Sorted>, Trouble> {
-    let data = std::fs::read(path).map_err(|e| Trouble::File(format!("{}: {}", path, e)))?;
-    let text = text::decoded(path, &data)?;
+/// What isn't well with a model, and with captions that are sorted by it.
+pub fn notes<'a>(model: &Model, captions: impl Iterator<Item = &'a Caption>) -> Vec<String> {
+    let why = model.unfit();
+    let unfit = why.map(|why| format!("note: {} isn't to be released: {}", model.path, why));
+    let wild: Vec<usize> = captions
+        .filter(|c| c.wild.is_some())
+        .map(|c| c.line)
+        .collect();
+    let told = wild.first().map(|line| {
+        format!(
+            "note: a kernel value that isn't finite has a say in {} of the captions, the first in line {}",
+            wild.len(),
+            line
+        )
+    });
+    unfit.into_iter().chain(told).collect()
+}
+
+/// The captions of a file, with as many kernel values as a model asks for.
+pub fn captions(path: &str, sorter: &Sorter) -> Result<Vec<Caption>, Trouble> {
+    let name = input::name(path);
+    let text = text::decoded(name, &input::read(path)?)?;
     let lines = text.lines().enumerate();
-    let told = |k: usize| move |told| Trouble::File(format!("{}:{}: {}", path, k + 1, told));
+    let told = |k: usize| move |told| Trouble::File(format!("{}:{}: {}", name, k + 1, told));
     let largest = sorter.largest();
     lines
-        .map(|(k, line)| sorted(k + 1, line, sorter, largest).map_err(told(k)))
+        .map(|(k, line)| caption(k + 1, line, sorter, largest).map_err(told(k)))
         .collect()
 }
 
-fn sorted(line: usize, text: &str, sorter: &Sorter, largest: usize) -> Result<Sorted, String> {
+fn caption(line: usize, text: &str, sorter: &Sorter, largest: usize) -> Result<Caption, String> {
     let mut words = text.split_ascii_whitespace().peekable();
     let first = *words.peek().ok_or("an empty line")?;
     let label = match first.contains(':') {
@@ -74,14 +121,20 @@ fn sorted(line: usize, text: &str, sorter: &Sorter, largest: usize) -> Result<So
             largest
         ));
     }
-    // A model that was read has lists that fit each other.
-    let votes = sorter.votes(&values).map_err(|why| why.to_string())?;
-    Ok(Sorted {
+    Ok(Caption {
         line,
         serial,
         label,
-        votes,
+        wild: sorter.wild(&values),
+        values,
     })
+}
+
+fn sorted(caption: Caption, sorter: &Sorter) -> Result<Sorted, Trouble> {
+    // A model that was read has lists that fit each other.
+    let votes = sorter.votes(&caption.values);
+    let votes = votes.map_err(|why| Trouble::Differs(why.to_string()))?;
+    Ok(Sorted { caption, votes })
 }
 
 /// A line for each caption.
@@ -97,8 +150,8 @@ fn list(asked: &Sorting, sorter: &Sorter, captions: &[Sorted]) -> String {
     }];
     let tallies: Vec<String> = captions.iter().map(|c| tally(sorter, &c.votes)).collect();
     let width = tallies.iter().map(String::len).max().unwrap_or_default();
-    for (caption, tally) in captions.iter().zip(&tallies) {
-        let (winner, next) = (caption.votes.winner(), caption.votes.runner_up());
+    for (Sorted { caption, votes }, tally) in captions.iter().zip(&tallies) {
+        let (winner, next) = (votes.winner(), votes.runner_up());
         let label = caption.label.map_or(String::new(), |l| l.to_string());
         let mut line = format!(
             "{:>6} {:>6} {:>6} {:>7} {:>6} {:>10} {:>6}",
@@ -106,14 +159,15 @@ fn list(asked: &Sorting, sorter: &Sorter, captions: &[Sorted]) -> String {
             caption.serial,
             label,
             sorter.label(winner),
-            caption.votes.of(winner),
+            votes.of(winner),
             sorter.label(next),
-            caption.votes.of(next)
+            votes.of(next)
         );
         if asked.tally {
             line += &format!("  {:<1$}", tally, width);
         }
-        line += &tie(sorter, &caption.votes).unwrap_or_default();
+        line += &tie(sorter, votes).unwrap_or_default();
+        line += &caption.mark();
         lines.push(line.trim_end().to_string());
     }
     lines.join("\n") + "\n"
@@ -133,20 +187,20 @@ fn tie(sorter: &Sorter, votes: &Votes) -> Option<String> {
 }
 
 /// How many are sorted as their labels say, of those that have one, and how many are ties.
-fn counted(sorter: &Sorter, captions: &[Sorted]) -> String {
-    let labelled = captions.iter().filter(|c| c.label.is_some());
-    let all = labelled.clone().count();
-    let right = labelled
-        .filter(|c| c.label == Some(sorter.label(c.votes.winner())))
-        .count();
+fn counted(sorter: &Sorter, captions: &[Sorted]) -> Vec<String> {
+    let right = |c: &Sorted| Some(c.caption.label? == sorter.label(c.votes.winner()));
     let ties = captions.iter().filter(|c| c.votes.ties().nth(1).is_some());
-    let mut told = String::new();
-    if all > 0 {
-        let part = six_digits(100.0 * right as f64 / all as f64);
-        told += &format!("Accuracy = {}% ({}/{})\n", part, right, all);
-    }
-    told += &format!("ties: {} of {} captions\n", ties.count(), captions.len());
-    told
+    let told = format!("ties: {} of {} captions", ties.count(), captions.len());
+    let part = accuracy(captions.iter().map(right));
+    part.into_iter().chain([told]).collect()
+}
+
+/// The part that is sorted rightly, of those of which that can be said.
+pub fn accuracy(right: impl Iterator<Item = Option<bool>>) -> Option<String> {
+    let known: Vec<bool> = right.flatten().collect();
+    let (right, all) = (known.iter().filter(|yes| **yes).count(), known.len());
+    let part = six_digits(100.0 * right as f64 / all as f64);
+    (all > 0).then(|| format!("Accuracy = {}% ({}/{})", part, right, all))
 }
 
 /// A number from 0 to 100 as `%g` of C writes it: in six digits, without zeros at the end.

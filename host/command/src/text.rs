@@ -27,3 +27,23 @@ pub fn captions(path: &str, n: usize) -> Result<Vec<String>, Trouble> {
         ))),
     }
 }
+
+/// A string of JSON.
+pub fn json(text: &str) -> String {
+    let sign = |c: char| match c {
+        '"' | '\\' => format!("\\{}", c),
+        c if c < ' ' => format!("\\u{:04x}", u32::from(c)),
+        c => c.to_string(),
+    };
+    format!("\"{}\"", text.chars().map(sign).collect::<String>())
+}
+
+#[cfg(test)]
+mod tests {
+    #[test]
+    fn a_string_of_json_has_no_sign_that_ends_it() {
+        let text = "\"NOT\\AUS\"\t\u{1f}\u{20}\u{7f}č";
+        let told = "\"\\\"NOT\\\\AUS\\\"\\u0009\\u001f \u{7f}č\"";
+        assert_eq!(super::json(text), told);
+    }
+}

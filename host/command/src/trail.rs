@@ -2,13 +2,15 @@
 use crate::arguments::{Fit, Settings};
 use crate::model::double;
 use crate::problem::Samples;
-use crate::{options, text, training, Trouble};
+use crate::{options, text, training, Trouble, Whole};
 use altuliscia::{trail, NoTrail, Step, Trail};
 
 /// Whose weight is pointed at, and what the samples are called.
 pub struct Finger {
     pub sample: usize,
     captions: Option<Vec<String>>,
+    /// Whether the samples are a pair of a file that has more classes.
+    pair: bool,
 }
 
 impl Finger {
@@ -19,24 +21,45 @@ impl Finger {
     }
 }
 
-/// What a call points at, where it asks for a trail. Its file has so many samples in all.
-pub fn finger(s: &Samples, settings: &Settings, all: usize) -> Result<Option<Finger>, Trouble> {
+/// What a call points at, where it names a sample.
+pub fn finger(s: &Samples, settings: &Settings, whole: &Whole) -> Result<Option<Finger>, Trouble> {
     let word = match &settings.sample {
         Some(word) => word,
         None => return Ok(None),
     };
-    let wrong = |told| Trouble::Usage(format!("--sample: {}", told));
-    let sample = s.with_serial(word).map_err(wrong)?;
-    let captions = match &settings.captions {
-        Some(path) => {
-            let captions = text::captions(path, all)?;
-            let place = |k: usize| s.lines.get(k).map_or(k, |line| line.number - 1);
-            let own = (0..s.n).map(|k| captions.get(place(k)).cloned().unwrap_or_default());
-            Some(own.collect())
-        }
-        None => None,
+    let wrong = |told| {
+        let elsewhere = word
+            .parse()
+            .map_or(false, |serial| whole.serials.contains(&serial));
+        Trouble::Usage(match elsewhere {
+            true => format!(
+                "--sample: serial {} is in {} but not in the pair {} {}",
+                word, s.path, s.classes[0], s.classes[1]
+            ),
+            false => format!("--sample: {}", told),
+        })
     };
-    Ok(Some(Finger { sample, captions }))
+    Ok(Some(Finger {
+        sample: s.with_serial(word).map_err(wrong)?,
+        captions: captions(s, settings, whole)?,
+        pair: whole.classes > 2,
+    }))
+}
+
+/// The caption of each sample, where there is a file of them: it has a line for each of the whole file.
+pub fn captions(
+    s: &Samples,
+    settings: &Settings,
+    whole: &Whole,
+) -> Result<Option<Vec<String>>, Trouble> {
+    let path = match &settings.captions {
+        Some(path) => path,
+        None => return Ok(None),
+    };
+    let captions = text::captions(path, whole.n)?;
+    let place = |k: usize| s.lines.get(k).map_or(k, |line| line.number - 1);
+    let own = (0..s.n).map(|k| captions.get(place(k)).cloned().unwrap_or_default());
+    Ok(Some(own.collect()))
 }
 
 /// Follows a sample through the training.
@@ -92,6 +115,9 @@ fn who(s: &Samples, finger: &Finger, k: usize) -> String {
     let mut words = vec![format!("serial {}", s.serials[k]), format!("sample {}", k)];
     if !s.classes.is_empty() {
         words.push(format!("label {}", s.label(k)));
+    }
+    if finger.pair {
+        words.push(format!("in the pair {} {}", s.classes[0], s.classes[1]));
     }
     words.extend(finger.caption(k));
     words.join(", ")

@@ -1,13 +1,17 @@
 //! The command line over small files.
+mod bare;
 mod common;
 mod over;
+mod whole;
 
+use bare::bare;
 use captions::Figures;
 use command::run;
 use common::{both, file, folder, own, told, SMALL};
 use over::OVER;
 use std::fs;
 use std::process::Command;
+use whole::whole;
 
 #[test]
 fn a_model_is_written_and_told() {
@@ -19,22 +23,22 @@ fn a_model_is_written_and_told() {
     let text = told("train FILE MODEL", &path, &model).unwrap();
     assert_eq!(
         text,
-        "optimization finished, #iter = 1\nnu = 1.000000\nobj = -1.000000, rho = 0.000000\nnSV = 2, nBSV = 2\nTotal nSV = 2\nexit reason: threshold\n"
+        "optimization finished, #iter = 1\nnu = 1.000000\nobj = -1.000000, rho = 0.000000\nnSV = 2, nBSV = 2\nTotal nSV = 2\noptions: -s 0 -c 1.0 -e 0.001 -h 0 --budget 10000000 --floor 1e-10\nexit reason: threshold\n"
     );
     assert_eq!(
-        fs::read_to_string(&model).unwrap(),
+        bare(&fs::read_to_string(&model).unwrap()),
         "svm_type c_svc\nkernel_type precomputed\nnr_class 2\ntotal_sv 2\nrho 0.0\nlabel 7 3\nnr_sv 1 1\nSV\n1.0 0:1\n-1.0 0:2\n"
     );
-    let text = told("train FILE MODEL --budget 1", &path, &model).unwrap();
+    let (_, text, _) = whole(&["train", &path, &model, "--budget", "1"]);
     assert!(text.ends_with("exit reason: iterations (all 1 of the budget)\n"));
-    let text = told("train -s 1 -n 1 FILE MODEL", &path, &model).unwrap();
-    assert!(text.contains("nu = 1.000000\nC = "), "{}", text);
+    let text = told("train -s 1 -n 0.5 FILE MODEL", &path, &model).unwrap();
+    assert!(text.contains("nu = 0.500000\nC = "), "{}", text);
     assert!(fs::read_to_string(&model)
         .unwrap()
         .starts_with("svm_type nu_svc\n"));
     told("train -s 2 -n 0.5 FILE MODEL", &path, &model).unwrap();
     assert_eq!(
-        fs::read_to_string(&model).unwrap(),
+        bare(&fs::read_to_string(&model).unwrap()),
         "svm_type one_class\nkernel_type precomputed\nnr_class 2\ntotal_sv 2\nrho 0.5\nSV\n0.5 0:1\n0.5 0:2\n"
     );
 }
@@ -51,7 +55,7 @@ fn a_ceiling_divided_by_r_has_no_sign() {
     );
     // r is infinite, and every weight is 0
     let infinite = file(&f, "small.txt", SMALL.as_bytes());
-    let text = told("train -s 1 -n 1 FILE MODEL", &infinite, "/dev/null").unwrap();
+    let (_, text, _) = whole(&["train", "-s1", "-n1", &infinite, "/dev/null"]);
     assert!(
         text.contains("C = 0.000000\n") && text.contains("nSV = 0, nBSV = 0\n"),
         "{}",
@@ -93,14 +97,14 @@ fn weights_that_are_listed_and_not_counted_are_told() {
     let text = "1 0:1 1:1 2:0 3:0 4:0\n-1 0:2 1:0 2:1 3:0 4:0\n-1 0:3 1:0 2:0 3:1 4:0\n-1 0:4 1:0 2:0 3:0 4:1\n";
     let (path, model) = (file(&f, "file", text.as_bytes()), file(&f, "model", b"old"));
     let told_of = |options: &str| {
-        let line = format!("train {} FILE MODEL", options);
-        let told = told(&line, &path, &model).unwrap();
+        let files = ["--write-anyway", &path, &model];
+        let words: Vec<&str> = ["train"].into_iter().chain(options.split(' ')).collect();
+        let (status, told, _) = whole(&[&words[..], &files].concat());
+        assert_eq!(status == 6, told.contains("nSV = 0,"), "{}", told);
         let start = told.find("nSV").unwrap();
-        let end = told.find("exit").unwrap();
-        (
-            told[start..end].to_string(),
-            fs::read_to_string(&model).unwrap(),
-        )
+        let end = told.find("options").unwrap();
+        let written = fs::read_to_string(&model).unwrap();
+        (told[start..end].to_string(), bare(&written).to_string())
     };
     let (counts, listed) = told_of("-w-1 1e-14");
     assert_eq!(
@@ -128,9 +132,10 @@ fn weights_that_are_listed_and_not_counted_are_told() {
         "nSV = 0, nBSV = 0\nweights in the model: 1 (1 of them at most 100*2^-52 in magnitude, not counted as support)\n"
     );
     let (out, err) = both("train -q -w-1 1e-14 FILE MODEL", &path, &model).unwrap();
-    assert_eq!((out.as_str(), err.as_str()), ("", ""));
+    let note = "note: the costs differ: label 1 has 1.0, label -1 has 1e-14; it isn't promised then that every weight lies in 0..ceiling\n";
+    assert_eq!((out.as_str(), err.as_str()), ("", note));
     let help = told("train --help", "", "").unwrap();
-    assert!(help.contains("nSV counts the weights above 100*2^-52 in magnitude"));
+    assert!(help.contains("nSV counts the weights above 100*2^-52 in\nmagnitude"));
     assert!(help.contains("where these are more than nSV, a line says how many and why."));
 }
 
@@ -140,11 +145,13 @@ fn weights_that_are_nan_are_listed_and_not_counted() {
     let f = folder("nan");
     let path = file(&f, "zeros", &own(4, &[0.0; 16], &[1, 1, 0, 0]));
     let model = file(&f, "model", b"old");
-    let text = told("train -s 1 -n 0.25 FILE MODEL", &path, &model).unwrap();
+    let words = ["train", "-s1", "-n0.25", "--write-anyway", &path, &model];
+    let (status, text, _) = whole(&words);
+    assert_eq!(status, 6);
     let counts = "nSV = 2, nBSV = 0\nTotal nSV = 2\nweights in the model: 4 (2 of them NaN, not counted as support)\n";
     assert!(text.contains(counts), "{}", text);
     let listed = fs::read_to_string(&model).unwrap();
-    assert!(listed.ends_with("SV\ninf 0:1\nnan 0:2\n-inf 0:3\nnan 0:4\n"));
+    assert!(bare(&listed).ends_with("SV\ninf 0:1\nnan 0:2\n-inf 0:3\nnan 0:4\n"));
 }
 
 #[test]
@@ -174,12 +181,14 @@ fn with_shrinking_on_a_note_says_what_it_leaves_out() {
     for fit in ["-s 0", "-s 1 -n 0.5", "-s 2"] {
         let with = |shrinking: &str| {
             let line = format!("train {} {} FILE MODEL", fit, shrinking);
-            told(&line, &path, "/dev/null").unwrap()
+            both(&line, &path, "/dev/null").unwrap()
         };
-        assert_eq!(with("-h 1"), with("-h 0") + ON);
+        let (out, err) = with("-h 0");
+        let out = out.replace(" -h 0 ", " -h 1 ");
+        assert_eq!(with("-h 1"), (out, err + ON));
     }
     let help = told("train --help", "", "").unwrap();
-    let limit = "no pair is left to mend, with -h 1: among the\nsamples still active;";
+    let limit = "no pair is left to mend, with -h\n1: among the samples still active;";
     assert!(help.contains(limit));
 }
 
@@ -188,23 +197,28 @@ fn quiet_says_only_what_is_not_well() {
     let f = folder("quiet");
     let path = file(&f, "small.txt", SMALL.as_bytes());
     let list = told("weights FILE", &path, "").unwrap();
-    for (options, expected) in [
-        ("", ""),
+    let spent = "altuliscia: not to be released: the budget ran out, all 1 of it";
+    let unwritten = format!(
+        "{}; no model was written (--write-anyway writes it)\n",
+        spent
+    );
+    for (options, status, train, weights) in [
+        (&[][..], 0, "", "".to_string()),
         (
-            "--budget 1",
-            "exit reason: iterations (all 1 of the budget)\n",
+            &["--budget", "1"],
+            6,
+            &unwritten[..],
+            format!("{}\n", spent),
         ),
-        ("-h 1", ON),
+        (&["-h", "1"], 0, ON, ON.to_string()),
     ] {
-        let line = format!("train -q {} FILE MODEL", options);
-        let (out, err) = both(&line, &path, "/dev/null").unwrap();
-        assert_eq!((out.as_str(), err.as_str()), ("", expected));
-        let (out, err) = both(&format!("weights -q {} FILE", options), &path, "").unwrap();
-        assert_eq!((out.as_str(), err.as_str()), (list.as_str(), expected));
+        let found = whole(&[&["train", "-q", &path, "/dev/null"], options].concat());
+        assert_eq!(found, (status, String::new(), train.to_string()));
+        let found = whole(&[&["weights", "-q", &path], options].concat());
+        assert_eq!(found, (status, list.clone(), weights));
     }
     let help = told("train --help", "", "").unwrap();
     assert!(help.contains("all is well; what isn't is told on standard error\n"));
-    assert!(help.contains("With -q only the notes, and the exit reason where it is iterations,"));
 }
 
 #[test]
@@ -212,20 +226,24 @@ fn how_a_lists_run_ended_is_told_beside_it() {
     let f = folder("beside");
     let path = file(&f, "over.txt", OVER.as_bytes());
     let (_, err) = both("weights -w-1 2 FILE", &path, "").unwrap();
-    assert_eq!(err, "exit reason: threshold\nrho = 0.9999433318247627\n");
-    let (list, err) = both("weights -h 1 -w-1 2 FILE", &path, "").unwrap();
-    let start = "exit reason: threshold\nrho = nan\nnote: rho is nan, ";
-    assert!(err.starts_with(start) && err.ends_with(ON), "{}", err);
+    let costs = "note: the costs differ: label 1 has 1.0, label -1 has 2.0; it isn't promised then that every weight lies in 0..ceiling\n";
+    let options = "options: -s 0 -c 1.0 -w-1 2.0 -e 0.001 -h 0 --budget 10000000 --floor 1e-10\n";
+    let start = "exit reason: threshold\nrho = 0.9999433318247627\n";
+    assert_eq!(err, [start, options, costs].concat());
+    let (status, list, err) = whole(&["weights", "-h", "1", "-w-1", "2", &path]);
+    let start = "exit reason: threshold\nrho = nan\noptions: ";
+    let end = "altuliscia: not to be released: rho is nan, so everything is sorted into one and the same class; train with -h 0\n";
+    let end = [costs, ON, end].concat();
+    assert!(err.starts_with(start) && err.ends_with(&end), "{}", err);
+    assert_eq!(status, 6);
     let help = told("weights --help", "", "").unwrap();
-    assert!(
-        help.contains("The exit reason, rho and the notes of `train` are told on standard error")
-    );
+    assert!(help.contains("The exit reason, rho and the options are told on standard error"));
     // Where both go to one place it stands below the list.
     let whole = fs::File::create(f.join("whole")).unwrap();
     let mut command = program();
     command.args(["weights", "-h", "1", "-w-1", "2", &path]);
     command.stdout(whole.try_clone().unwrap()).stderr(whole);
-    assert!(command.status().unwrap().success());
+    assert_eq!(command.status().unwrap().code(), Some(6));
     assert_eq!(fs::read_to_string(f.join("whole")).unwrap(), list + &err);
 }
 
@@ -237,7 +255,8 @@ fn the_other_reading_stands_beside_a_weight() {
         4., -4., 3., -3., -4., 3., 2., -2., 3., 2., 4., 0., -3., -2., 0., 5.,
     ];
     let path = file(&f, "four", &own(4, &matrix, &[1, 0, 1, 1]));
-    let text = told("weights -e 0 -h 1 --budget 100 FILE", &path, "").unwrap();
+    let (status, text, err) = whole(&["weights", "-e0", "-h1", "--budget=100", &path]);
+    assert_eq!(status, 6);
     let found: Vec<Vec<&str>> = text
         .lines()
         .skip(1)
@@ -247,22 +266,25 @@ fn the_other_reading_stands_beside_a_weight() {
     assert_eq!(found[2], ["2", "3", "1", "0.6666666666666666", "0.0"]);
     assert_eq!(found[3], ["3", "4", "1", "0.0", "0.6666666666666666"]);
     let model = f.join("model");
-    let text = told(
-        "train -e 0 -h 1 --budget 100 FILE MODEL",
+    let model = model.to_str().unwrap();
+    let words = [
+        "train",
+        "-e0",
+        "-h1",
+        "--budget=100",
+        "--write-anyway",
         &path,
-        model.to_str().unwrap(),
-    )
-    .unwrap();
+        model,
+    ];
+    let (status, text, told) = whole(&words);
+    assert_eq!(status, 6);
     assert!(text.contains("rho = nan\n"), "{}", text);
-    assert!(text.contains(
-        "note: rho is nan, so everything is sorted into one and the same class; train with -h 0\n"
-    ));
-    assert!(text
-        .contains("note: 2 of 4 samples have another weight in the list that linfa-svm answers"));
+    let note = "note: 2 of 4 samples have another weight in the list that linfa-svm answers";
+    assert!(told.contains(note) && err.contains(note), "{}", told);
     let model = fs::read_to_string(model).unwrap();
     assert!(
         model.contains("rho nan\n")
-            && model.ends_with("SV\n0.6666666666666666 0:3\n-0.6666666666666666 0:2\n")
+            && bare(&model).ends_with("SV\n0.6666666666666666 0:3\n-0.6666666666666666 0:2\n")
     );
 }
 
@@ -335,14 +357,15 @@ fn a_check_names_every_fault() {
         (trouble.status(), trouble.to_string().as_str()),
         (13, "this problem would be refused")
     );
-    let kernel = "A kernel entry is NaN, infinite or above 2^1000 in magnitude: the index is column*n + row; scale the kernel down or mend that entry.";
-    let ceiling = "A ceiling is NaN, not above 0 or above 2^1000: the index is its sample, in the C entry 0 for cpos and 1 for cneg; give a ceiling above 0 and not above 2^1000.";
+    let kernel = "a kernel value must be finite and not above 2^1000 in magnitude (refusal 3)";
+    let cost =
+        "-c must be above 0 and not above 2^1000, also where -w multiplies it: that of label";
     let expected = [
-        format!("{}:1: '1:nan': refusal 3 at index 0: {}", path, kernel),
-        format!("{}:2: '2:-1e302': refusal 3 at index 3: {}", path, kernel),
-        format!("-c, -w: the cost of label 1 is -1.0: refusal 5 at index 0: {}", ceiling),
-        format!("-c, -w: the cost of label 2 is -1.0: refusal 5 at index 1: {}", ceiling),
-        "-e nan: refusal 8: The threshold eps is NaN, infinite or has its sign bit set: give 0 or a finite number above it.".to_string(),
+        format!("{}:1: '1:nan': {}", path, kernel),
+        format!("{}:2: '2:-1e302': {}", path, kernel),
+        format!("{} 1 is -1.0 (refusal 5)", cost),
+        format!("{} 2 is -1.0 (refusal 5)", cost),
+        "-e must be 0 or above it, and finite: it is nan (refusal 8)".to_string(),
         format!("{}: 2 samples, 5 faults", path),
     ];
     assert_eq!(
@@ -361,10 +384,10 @@ fn a_check_tells_its_faults_on_standard_output() {
 #[test]
 fn a_bad_kernel_value_is_told_as_it_is_written() {
     let f = folder("words");
-    let data = b"1 0:3 1:0 2:0 3:1\n2 0:1 1:1 2:nan 3:+1E400\n";
+    let data = b"1 0:3 1:0 2:0 3:1\n2 0:1 1:1 2:0 3:+1E400\n1 0:2 1:0 2:1 3:0\n";
     let path = file(&f, "a", data);
     let trouble = told("train FILE MODEL", &path, "/dev/null").unwrap_err();
-    let place = format!("{}:2: '3:+1E400': refusal 3 at index 2: ", path);
+    let place = format!("{}:2: '3:+1E400': a kernel value must be ", path);
     assert!(trouble.to_string().starts_with(&place), "{}", trouble);
 }
 
@@ -374,7 +397,7 @@ fn the_number_of_samples_is_told_where_it_is_too_large() {
     for (n, data) in [(513, own(513, &[], &[])), (0, Vec::new())] {
         let path = file(&f, "a", &data);
         let trouble = told("weights FILE", &path, "").unwrap_err();
-        let place = format!("{}: {} samples: refusal 1: ", path, n);
+        let place = format!("{}: {} samples: 1 to 512 samples are trained", path, n);
         assert!(trouble.to_string().starts_with(&place), "{}", trouble);
     }
 }
@@ -384,18 +407,24 @@ fn numbers_of_many_digits_are_told_in_few() {
     let f = folder("digits");
     let path = file(&f, "small.txt", SMALL.as_bytes());
     for (options, place) in [
-        ("-c 1e302", "-c, -w: the cost of label 7 is 1e302: refusal"),
-        ("-e -1e302", "-e -1e302: refusal"),
-        ("-e -1e-302", "-e -1e-302: refusal"),
-        ("-s 1 -n 1e302", "-n 1e302: refusal"),
+        ("-c 1e302", "that of label 7 is 1e302 (refusal 5)"),
+        (
+            "-e -1e302",
+            "-e must be 0 or above it, and finite: it is -1e302 (refusal 8)",
+        ),
+        ("-e -1e-302", "it is -1e-302 (refusal 8)"),
+        (
+            "-s 1 -n 1e302",
+            "-n must be above 0 and not above 1: it is 1e302 (refusal 9)",
+        ),
         (
             "--budget 99999999999999999999",
-            "--budget 18446744073709551615 or more: refusal 10: ",
+            "--budget must be 1 to 10000000: it is 18446744073709551615 or more (refusal 10)",
         ),
     ] {
         let line = format!("train {} FILE MODEL", options);
         let trouble = told(&line, &path, "/dev/null").unwrap_err();
-        assert!(trouble.to_string().starts_with(place), "{}", trouble);
+        assert!(trouble.to_string().ends_with(place), "{}", trouble);
     }
     let large = file(&f, "large", b"1 0:1 1:-1e300 2:0\n2 0:2 1:0 2:-1e300\n");
     let text = told("train FILE MODEL", &large, "/dev/null").unwrap();
@@ -496,7 +525,7 @@ fn a_wrong_length_is_told_with_what_should_be() {
     let path = file(&f, "a", &own(2, &[1.0, 0.0, 0.0], &[]));
     let trouble = told("weights FILE", &path, "").unwrap_err();
     let text = format!(
-        "{}: n is 2, so 32 bytes of matrix and 2 of labels should follow it: refusal 2: ",
+        "{}: n is 2, so 32 bytes of matrix and 2 of labels should follow it (refusal 2)",
         path
     );
     assert!(trouble.to_string().starts_with(&text), "{}", trouble);
@@ -577,6 +606,13 @@ fn help_is_there_for_all() {
         "check --help -c",
         "trail --help",
         "sort --help",
+        "decide --help",
+        "show --help",
+        "help",
+        "-h",
+        "train -h",
+        "sort -h",
+        "help weights",
     ] {
         let text = told(line, "", "").unwrap();
         assert!(

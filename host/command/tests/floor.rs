@@ -1,9 +1,11 @@
 //! Trainings with another floor of the curvature.
 mod common;
+mod whole;
 
 use command::{run, Trouble};
-use common::{both, file, folder, own, said, told, SMALL};
+use common::{file, folder, own, said, told, SMALL};
 use std::fs;
+use whole::whole;
 
 /// Two samples that are alike but for their label: along them the curvature is 0.
 const FLAT: &str = "7 0:1 1:1 2:1\n3 0:2 1:1 2:1\n";
@@ -13,8 +15,9 @@ fn a_smaller_floor_takes_longer_steps() {
     let f = folder("floor-steps");
     let path = file(&f, "flat.txt", FLAT.as_bytes());
     let with = |options: &str| {
-        let line = format!("train -c 1e12 {} FILE MODEL", options);
-        told(&line, &path, "/dev/null").unwrap()
+        let words = ["train", "-c", "1e12", &path, "/dev/null"];
+        let words = words.into_iter().chain(options.split_whitespace());
+        whole(&words.collect::<Vec<_>>()).1
     };
     let usual = with("");
     assert!(usual.starts_with("optimization finished, #iter = 50\n"));
@@ -23,9 +26,11 @@ fn a_smaller_floor_takes_longer_steps() {
     }
     let other = usual
         .replace("#iter = 50", "#iter = 1")
-        .replace("exit reason", "floor = 1e-12\nexit reason");
+        .replace("--floor 1e-10", "--floor 1e-12")
+        .replace("options:", "floor = 1e-12\noptions:");
     assert_eq!(with("--floor 1e-12"), other);
-    assert!(with("--floor 1 --budget 9").contains("\nfloor = 1.0\nexit reason: iterations"));
+    let few = with("--floor 1 --budget 9");
+    assert!(few.contains("\nfloor = 1.0\noptions: ") && few.contains("\nexit reason: iterations"));
     let least = with("--floor 5e-324");
     assert!(least.contains("#iter = 1\n") && least.contains("\nfloor = 5e-324\n"));
 }
@@ -49,21 +54,26 @@ fn every_fit_takes_it() {
     ] {
         let path = file(&f, "flat", &data);
         let list = |rest: &str| {
-            let line = format!("weights {} --budget 2 {} FILE", options, rest);
-            both(&line, &path, "").unwrap()
+            let line = format!("weights {} --budget 2 {}", options, rest);
+            let words: Vec<&str> = line.split_whitespace().chain([&path[..]]).collect();
+            let (status, out, err) = whole(&words);
+            (status, out, err)
         };
-        let (usual, beside) = list("");
-        let (other, beside_other) = list("--floor 1");
+        let (_, usual, beside) = list("");
+        let (_, other, beside_other) = list("--floor 1");
         assert_ne!(usual, other, "{}", options);
-        assert!(!beside.contains("floor"));
+        assert!(!beside.contains("\nfloor = "));
         assert!(beside_other.contains("\nfloor = 1.0\n"), "{}", beside_other);
-        let (quiet, beside) = list("-q --floor 1");
-        assert_eq!(quiet, other);
-        assert_eq!(beside, "exit reason: iterations (all 2 of the budget)\n");
+        let (status, quiet, beside) = list("-q --floor 1");
+        assert_eq!((status, quiet), (6, other));
+        assert_eq!(
+            beside,
+            "altuliscia: not to be released: the budget ran out, all 2 of it\n"
+        );
     }
 }
 
-const REFUSED: &str = "refusal 14: The floor of the curvature is NaN, not above 0 or above 1: give a number above 0 and not above 1; the usual one is 1e-10.";
+const REFUSED: &str = "--floor must be above 0 and not above 1: it is ";
 
 #[test]
 fn a_bad_floor_is_refused_and_nothing_is_written() {
@@ -71,17 +81,17 @@ fn a_bad_floor_is_refused_and_nothing_is_written() {
     let path = file(&f, "small.txt", SMALL.as_bytes());
     let model = file(&f, "model", b"old");
     for (word, place) in [
-        ("0", "--floor 0.0"),
-        ("-0", "--floor -0.0"),
-        ("1e-400", "--floor 0.0"),
-        ("-1", "--floor -1.0"),
-        ("nan", "--floor nan"),
-        ("inf", "--floor inf"),
-        ("-inf", "--floor -inf"),
-        ("1.0000000000000002", "--floor 1.0000000000000002"),
-        ("1e400", "--floor inf"),
+        ("0", "0.0"),
+        ("-0", "-0.0"),
+        ("1e-400", "0.0"),
+        ("-1", "-1.0"),
+        ("nan", "nan"),
+        ("inf", "inf"),
+        ("-inf", "-inf"),
+        ("1.0000000000000002", "1.0000000000000002"),
+        ("1e400", "inf"),
     ] {
-        let expected = format!("{}: {}", place, REFUSED);
+        let expected = format!("{}{} (refusal 14)", REFUSED, place);
         for command in ["train", "weights"] {
             let words = [command, "--floor", word, &path, &model];
             let words = &words[..if command == "train" { 5 } else { 4 }];
@@ -132,10 +142,10 @@ fn a_check_names_it_behind_the_budget_and_before_the_list() {
         &path,
     ]);
     let starts = [
-        "--budget 0: refusal 10: ",
-        "--floor 0.0: refusal 14: ",
+        "--budget must be 1 to 10000000: it is 0 (refusal 10)",
+        "--floor must be above 0 and not above 1: it is 0.0 (refusal 14)",
         "--retired: no sample ",
-        "-h 1 beside --retired (leave -h 1 out): refusal 13: ",
+        "-h 1 beside --retired: leave -h 1 out (refusal 13)",
     ];
     let lines: Vec<&str> = told.lines().collect();
     assert_eq!(lines.len(), starts.len() + 1);
@@ -194,7 +204,7 @@ fn help_tells_of_it() {
             "{}",
             line
         );
-        assert!(help.contains("(11 to 24)"), "{}", line);
+        assert!(help.contains("(11\nto 24)"), "{}", line);
     }
     let help = told("trail --help", "", "").unwrap();
     assert!(help.contains("There is no trail with -h 1, nor with another floor than 1e-10."));

@@ -1,12 +1,17 @@
 //! LIBSVM's svm-predict reads the model files and decides as the library's weights do.
+mod bare;
+mod whole;
+
 use altuliscia::{
     fit_c, fit_c_retired, fit_nu, fit_one_class, Answer, OneClass, Options, Problem, SUPPORT_LIMIT,
 };
+use bare::bare;
 use captions::{decision, Figures, Model, Several};
 use std::fs;
 use std::io::Write;
 use std::path::{Path, PathBuf};
 use std::process::{Command, Stdio};
+use whole::whole;
 
 const PAIRS: [(&str, &str); 2] = [
     ("cs-sk", include_str!("../../../captions/cs-sk.txt")),
@@ -35,6 +40,11 @@ fn there() -> bool {
     started.is_ok()
 }
 
+/// The model that is there, without its record.
+fn model_in(folder: &Path) -> String {
+    bare(&fs::read_to_string(folder.join("model")).unwrap()).to_string()
+}
+
 /// Trains a text through the command line and has svm-predict label another.
 fn predicted(folder: &Path, train: &str, held: &str, options: &str) -> Vec<i32> {
     let path = |name: &str| folder.join(name).to_str().unwrap().to_string();
@@ -42,7 +52,14 @@ fn predicted(folder: &Path, train: &str, held: &str, options: &str) -> Vec<i32> 
     fs::write(path("held"), held).unwrap();
     let mut words = vec!["train".to_string(), path("train"), path("model")];
     words.extend(options.split_whitespace().map(str::to_string));
-    command::run(&words, &mut Vec::new(), &mut Vec::new(), false).unwrap();
+    let words: Vec<&str> = words.iter().map(String::as_str).collect();
+    let (status, _, err) = whole(&words);
+    let expected = if options.contains("--write-anyway") {
+        6
+    } else {
+        0
+    };
+    assert_eq!(status, expected, "{} {}", options, err);
     labelled(folder)
 }
 
@@ -167,7 +184,7 @@ fn weights_that_are_not_counted_have_their_say() {
         let cost = format!("-c {:?}", 10.0 / scale);
         let found = predicted(&folder, &scaled(train), &scaled(held), &cost);
         assert_eq!(found, expected);
-        let model = fs::read_to_string(folder.join("model")).unwrap();
+        let model = model_in(&folder);
         let weights = model.lines().skip_while(|l| *l != "SV").skip(1);
         let weights = weights.map(|l| l.split(' ').next().unwrap().parse::<f64>().unwrap());
         let weights: Vec<f64> = weights.collect();
@@ -349,7 +366,8 @@ fn several_languages_are_sorted_as_svm_predict_does() {
         "-c 1",
         "-c 10 -e 1e-7",
         "-c 0.1 -w7 3",
-        "-s 1 -n 0.3",
+        // The r of three of its pairs is infinite.
+        "-s 1 -n 0.3 --write-anyway",
         "-c 1 --retired 5,17,100,101,102,240",
         "svm-train -c 1",
         "svm-train -s 1 -n 0.3",
@@ -368,7 +386,7 @@ fn several_languages_are_sorted_as_svm_predict_does() {
         };
         let ours = sorted(&folder, "--labels");
         let list = sorted(&folder, "--votes");
-        let model = fs::read_to_string(folder.join("model")).unwrap();
+        let model = model_in(&folder);
         assert!(model.contains("\nnr_class 6\n") && model.contains("\nlabel 40 7 -1 3 1 12\n"));
         let decided = decisions(&model, &held);
         let rows = ours.lines().zip(list.lines().skip(1));
@@ -411,7 +429,7 @@ fn twelve_languages_are_sorted_as_svm_predict_does() {
         let found = predicted(&folder, &train, &held, options);
         let ours = sorted(&folder, "--labels");
         let ours: Vec<i32> = ours.lines().map(|line| line.parse().unwrap()).collect();
-        let model = fs::read_to_string(folder.join("model")).unwrap();
+        let model = model_in(&folder);
         let decided = decisions(&model, &held);
         assert_eq!(decided.len(), figures.held.len());
         assert!(decided.iter().all(|d| d.len() == 66));
@@ -454,4 +472,62 @@ fn a_decision_of_zero_is_where_they_part() {
         (found, sorted(&folder, "--labels")),
         (vec![9], "7\n".to_string())
     );
+}
+
+/// What `altuliscia decide` tells of the files that are there, in CSV: the label that each is sorted to, and the decisions.
+fn told(folder: &Path) -> Vec<(i32, Vec<f64>)> {
+    let path = |name: &str| folder.join(name).to_str().unwrap().to_string();
+    let (status, out, err) = whole(&["decide", "-q", "--csv", &path("model"), &path("held")]);
+    assert_eq!((status, err.as_str()), (0, ""));
+    let row = |line: &str| {
+        let words: Vec<&str> = line.split(',').collect();
+        let decisions = words[5..].iter().map(|w| w.parse().unwrap()).collect();
+        (words[3].parse().unwrap(), decisions)
+    };
+    out.lines().skip(1).map(row).collect()
+}
+
+/// Of one class the sign is svm-predict's label; of two and of six the decisions are those of the model's lines, to the bit.
+#[test]
+fn decisions_are_those_that_svm_predict_labels_by() {
+    if !there() {
+        return;
+    }
+    let mut one_class = [0; 2];
+    for (name, text) in PAIRS {
+        let figures = Figures::read(text).unwrap();
+        let folder = folder(&format!("decide-{}", name));
+        let (train, held) = (figures.libsvm_train(64), figures.libsvm_held(64));
+        for nu in ["0.1", "0.3", "0.7"] {
+            let options = format!("-s 2 -n {}", nu);
+            let labels = predicted(&folder, &train, &held, &options);
+            let told = told(&folder);
+            assert_eq!(told.len(), labels.len());
+            for (label, (sorted, decisions)) in labels.iter().zip(&told) {
+                assert!(decisions.len() == 1 && decisions[0].abs() > 1e-12);
+                assert_eq!(*label, if decisions[0] >= 0.0 { 1 } else { -1 });
+                assert_eq!(sorted, label);
+                one_class[usize::from(*label == 1)] += 1;
+            }
+        }
+        for options in ["-c 10", "-s 1 -n 0.3", "-c 10 --retired 20,31"] {
+            let labels = predicted(&folder, &train, &held, options);
+            let expected = decisions(&model_in(&folder), &held);
+            for (k, (sorted, decided)) in told(&folder).iter().enumerate() {
+                assert_eq!(decided, &expected[k]);
+                assert_eq!(*sorted, labels[k]);
+            }
+        }
+    }
+    assert!(
+        one_class.iter().all(|count| *count > 200),
+        "{:?}",
+        one_class
+    );
+    let (train, held) = six_languages(240, 600);
+    let folder = folder("decide-six");
+    predicted(&folder, &train, &held, "-c 1");
+    let decided: Vec<Vec<f64>> = told(&folder).into_iter().map(|(_, d)| d).collect();
+    assert_eq!(decided, decisions(&model_in(&folder), &held));
+    assert!(decided.len() == 600 && decided.iter().all(|d| d.len() == 15));
 }

@@ -1,11 +1,15 @@
 //! Trainings with retired samples.
+mod bare;
 mod common;
+mod whole;
 
+use bare::bare;
 use captions::Figures;
 use command::{run, Trouble};
 use common::{file, folder, own, said, told, SMALL};
 use std::fs;
 use std::path::PathBuf;
+use whole::whole;
 
 /// Two samples of each class.
 const FOUR: &str =
@@ -22,12 +26,13 @@ fn without(text: &str, serials: &[usize]) -> String {
     rest.map(|line| format!("{}\n", line)).collect()
 }
 
-/// What a training tells, and its model.
+/// What a training tells, and its model without the record.
 fn trained(f: &PathBuf, path: &str, options: &[&str]) -> (String, String) {
     let model = f.join("model").to_str().unwrap().to_string();
-    let words = [&["train", "-c", "10", path, &model], options].concat();
+    let words = [&["train", "-c", "10", "--part", path, &model], options].concat();
     let (out, _) = said(&words).unwrap();
-    (out, fs::read_to_string(model).unwrap())
+    let model = fs::read_to_string(model).unwrap();
+    (out, bare(&model).to_string())
 }
 
 #[test]
@@ -53,11 +58,11 @@ fn a_model_is_that_of_the_file_without_the_retired_lines() {
         assert_eq!(retired, model);
         let named: Vec<String> = serials.iter().map(usize::to_string).collect();
         let count = format!(
-            "retired: {} ({} of 64 samples)\nexit reason",
+            "retired: {} ({} of 64 samples)\noptions",
             named.join(","),
             serials.len()
         );
-        assert_eq!(found, summary.replace("exit reason", &count));
+        assert_eq!(found, summary.replace("options", &count));
         assert!(found.contains("\nnu = 0.") && found.ends_with(": threshold\n"));
         assert_eq!(trained(&f, &bytes, &["--retired", list]), (found, retired));
     }
@@ -93,7 +98,7 @@ fn every_sample_is_listed_under_its_own_number() {
     };
     let all = rows(&["weights", "-c", "10", &path]);
     let found = rows(&["weights", "-c", "10", "--retired", "20,31", &path]);
-    let alone = rows(&["weights", "-c", "10", &rest]);
+    let alone = rows(&["weights", "-c", "10", "--part", &rest]);
     assert_eq!((all.len(), found.len(), alone.len()), (64, 64, 62));
     for (k, row) in found.iter().enumerate() {
         assert_eq!(row[..3], all[k][..3]);
@@ -107,7 +112,7 @@ fn every_sample_is_listed_under_its_own_number() {
     let line = "    19     20      0  0.0                       retired";
     assert_eq!(list.lines().nth(20), Some(line));
     assert!(
-        err.ends_with("\nretired: 20 (1 of 64 samples)\n"),
+        err.contains("\nretired: 20 (1 of 64 samples)\noptions: "),
         "{}",
         err
     );
@@ -260,18 +265,22 @@ fn a_wrong_list_in_a_file_is_told_with_its_line() {
     }
 }
 
+/// It is a fault of the file, whether it is named or not.
 #[test]
 fn a_serial_number_of_two_samples_names_none() {
     let f = folder("retired-several");
     let text = FOUR.replace("0:3", "0:1");
     let path = file(&f, "a", text.as_bytes());
-    let told = format!(
+    let told = format!("{}:3: the serial number 1 is that of line 1, too", path);
+    assert_eq!(refused(&f, &path, "2,1"), (3, told.clone()));
+    assert_eq!(refused(&f, &path, "2"), (3, told.clone()));
+    let (status, out, _) = whole(&["check", "--retired", "1", &path]);
+    let several = format!(
         "--retired: the serial number 1 is that of several samples: {}:1, {}:3 (see altuliscia --help)",
         path, path
     );
-    assert_eq!(refused(&f, &path, "2,1"), (2, told));
-    let (out, _) = trained(&f, &path, &["--retired", "2"]);
-    assert!(out.contains("\nretired: 2 (1 of 4 samples)\n"), "{}", out);
+    let count = format!("{}: 4 samples, 2 faults\n", path);
+    assert_eq!((status, out), (3, [told, several, count].join("\n")));
 }
 
 #[test]
@@ -299,9 +308,8 @@ fn a_check_names_what_is_wrong_with_the_list() {
     let (told, done) = checked(&["--retired", &list]);
     assert_eq!(told, wrong.clone() + &count("3"));
     assert_eq!(done, Err(Trouble::Faults(3)));
-    let shrinking = "-h 1 beside --retired (leave -h 1 out): refusal 13: Shrinking is asked for where samples may be retired: train with shrinking off.\n";
-    let budget =
-        "--budget 0: refusal 10: The budget is 0 or above 10000000: give 1 to 10000000 passes.\n";
+    let shrinking = "-h 1 beside --retired: leave -h 1 out (refusal 13)\n";
+    let budget = "--budget must be 1 to 10000000: it is 0 (refusal 10)\n";
     let (told, done) = checked(&["--retired", &list, "-h", "1", "--budget", "0"]);
     assert_eq!(told, [budget, &wrong, shrinking, &count("5")].concat());
     assert_eq!(done, Err(Trouble::Faults(20)));
@@ -324,8 +332,8 @@ fn with_shrinking_on_it_is_refusal_13() {
     ] {
         let trouble = told(line, &path, &model).unwrap_err();
         assert_eq!(trouble.status(), 23);
-        let start = "-h 1 beside --retired (leave -h 1 out): refusal 13: ";
-        assert!(trouble.to_string().starts_with(start), "{}", trouble);
+        let told = "-h 1 beside --retired: leave -h 1 out (refusal 13)";
+        assert_eq!(trouble.to_string(), told);
     }
     assert_eq!(fs::read(&model).unwrap(), b"old");
 }
@@ -350,7 +358,7 @@ fn help_tells_of_it() {
     for line in ["train --help", "weights --help", "check --help"] {
         let help = told(line, "", "").unwrap();
         assert!(help.contains("\n  --retired LIST\n"), "{}", line);
-        assert!(help.contains("(11 to 24)"), "{}", line);
+        assert!(help.contains("(11\nto 24)"), "{}", line);
     }
     let help = told("--help", "", "").unwrap();
     assert!(help.contains("`altuliscia train --retired 20,31 packs.txt`"));

@@ -1,10 +1,14 @@
 //! Trainings of more than two languages: every pair by itself.
+mod bare;
 mod common;
+mod whole;
 
+use bare::bare;
 use command::{run, Trouble};
 use common::{both, file, folder, own, said, told, SMALL};
 use std::fs;
 use std::path::PathBuf;
+use whole::whole;
 
 /// One caption of each of three languages.
 const THREE: &str = "7 0:1 1:1 2:0 3:0\n3 0:2 1:0 2:1 3:0\n9 0:3 1:0 2:0 3:1\n";
@@ -83,10 +87,14 @@ fn parsed(model: &str) -> Model {
     (labels, words("rho "), support)
 }
 
+/// The model of a file that may be a part, or spend its budget, without its record.
 fn model(f: &PathBuf, path: &str, options: &str) -> String {
     let model = f.join("model").to_str().unwrap().to_string();
-    told(&format!("train {} FILE MODEL", options), path, &model).unwrap();
-    fs::read_to_string(model).unwrap()
+    let line = format!("train --part --write-anyway {}", options);
+    let words: Vec<&str> = line.split_whitespace().chain([path, &model]).collect();
+    let (status, _, err) = whole(&words);
+    assert!([0, 6].contains(&status), "{}", err);
+    bare(&fs::read_to_string(model).unwrap()).to_string()
 }
 
 #[test]
@@ -96,12 +104,12 @@ fn a_model_of_three_languages_is_written_and_told() {
     let text = told("train FILE MODEL", &path, &model).unwrap();
     let pair = "optimization finished, #iter = 1\nnu = 1.000000\nobj = -1.000000, rho = 0.000000\nnSV = 2, nBSV = 2\nexit reason: threshold\n\n";
     let expected = format!(
-        "pair 1 of 3: 7 3\n{0}pair 2 of 3: 7 9\n{0}pair 3 of 3: 3 9\n{0}Total nSV = 3\nexit reason: threshold, of all 3 pairs\n",
+        "pair 1 of 3: 7 3\n{0}pair 2 of 3: 7 9\n{0}pair 3 of 3: 3 9\n{0}Total nSV = 3\noptions: -s 0 -c 1.0 -e 0.001 -h 0 --budget 10000000 --floor 1e-10\nexit reason: threshold, of all 3 pairs\n",
         pair
     );
     assert_eq!(text, expected);
     assert_eq!(
-        fs::read_to_string(&model).unwrap(),
+        bare(&fs::read_to_string(&model).unwrap()),
         "svm_type c_svc\nkernel_type precomputed\nnr_class 3\ntotal_sv 3\nrho 0.0 0.0 0.0\nlabel 7 3 9\nnr_sv 1 1 1\nSV\n1.0 1.0 0:1\n-1.0 1.0 0:2\n-1.0 -1.0 0:3\n"
     );
     let (out, err) = both("train -q FILE MODEL", &path, &model).unwrap();
@@ -206,8 +214,9 @@ fn a_retired_caption_is_passed_over_in_every_pair() {
         model(&f, &rest, "-c 10")
     );
     let summary = told("train --retired 4 FILE MODEL", &path, "/dev/null").unwrap();
-    let end = "\nretired: 4 (1 of 60 samples)\nexit reason: threshold, of all 6 pairs\n";
-    assert!(summary.ends_with(end), "{}", summary);
+    let end = "\nretired: 4 (1 of 60 samples)\noptions: ";
+    assert!(summary.contains(end), "{}", summary);
+    assert!(summary.ends_with("\nexit reason: threshold, of all 6 pairs\n"));
     // A label whose captions are all retired.
     let three = file(&f, "three", THREE.as_bytes());
     let trouble = told("train --retired 2 FILE MODEL", &three, "/dev/null").unwrap_err();
@@ -227,6 +236,14 @@ fn a_retired_caption_is_passed_over_in_every_pair() {
     assert_eq!(trouble.status(), 23);
 }
 
+/// What is told of the pair 5 12 of a file that has more.
+fn named((out, err): (String, String), quiet: bool) -> (String, String) {
+    match quiet {
+        true => (out, err),
+        false => (out, format!("pair: 5 12\n{}", err)),
+    }
+}
+
 #[test]
 fn a_pair_alone_is_a_file_of_its_lines() {
     let f = folder("several-alone");
@@ -240,7 +257,8 @@ fn a_pair_alone_is_a_file_of_its_lines() {
             let line = format!("weights {} --pair {} FILE", options, labels);
             both(&line, &path, "").unwrap()
         };
-        let expected = both(&format!("weights {} FILE", options), &rest, "").unwrap();
+        let expected = both(&format!("weights --part {} FILE", options), &rest, "").unwrap();
+        let expected = named(expected, options.starts_with("-q"));
         assert_eq!(alone("5,12"), expected);
         assert_eq!(alone("12,5"), expected);
         let trained = model(&f, &path, &format!("{} --pair 12,5", options));
@@ -248,13 +266,14 @@ fn a_pair_alone_is_a_file_of_its_lines() {
     }
     // A cost of another label is passed over.
     let with = both("weights --pair 5,12 -w1 9 FILE", &path, "").unwrap();
-    assert_eq!(with, both("weights FILE", &rest, "").unwrap());
+    let alone = both("weights --part FILE", &rest, "").unwrap();
+    assert_eq!(with, named(alone.clone(), false));
     let checked = told("check --pair 5,12 FILE", &path, "").unwrap();
     let count = only(&text, &[12, 5]).lines().count();
     assert_eq!(checked, format!("{}: {} samples, no fault\n", path, count));
     // In a file of two labels it may stand, too.
-    let two = both("weights --pair 12,5 FILE", &rest, "").unwrap();
-    assert_eq!(two, both("weights FILE", &rest, "").unwrap());
+    let two = both("weights --part --pair 12,5 FILE", &rest, "").unwrap();
+    assert_eq!(two, alone);
     let small = file(&f, "small", SMALL.as_bytes());
     let list = told("weights --pair 3,7 FILE", &small, "").unwrap();
     assert_eq!(list, told("weights FILE", &small, "").unwrap());
@@ -288,18 +307,30 @@ fn one_weight_of_a_pair_is_followed() {
     let serial = only(&text, &[12]).split(' ').nth(1).unwrap()[2..].to_string();
     let words = ["trail", "-c", "10", "--sample", &serial, "--captions"];
     let alone = said(&[&words[..], &[&all, "--pair", "12,5", &path]].concat()).unwrap();
-    let expected = said(&[&words[..], &[&few, &rest]].concat()).unwrap();
-    assert_eq!(alone, expected);
+    let expected = said(&[&words[..], &[&few, "--part", &rest]].concat()).unwrap();
+    let (out, err) = named(expected, false);
+    // It names its pair.
+    let out = out.replacen(", label 12, ", ", label 12, in the pair 5 12, ", 1);
+    assert_eq!(alone, (out, err));
     assert!(alone.0.contains(&format!("\"caption of 0:{}\"", serial)));
     assert!(alone.0.contains("Checked with "), "{}", alone.0);
     let other = only(&text, &[1]).split(' ').nth(1).unwrap()[2..].to_string();
     let words = ["trail", "--pair", "12,5", "--sample", &other, &path];
     let trouble = said(&words).unwrap_err();
     let told_of = format!(
-        "--sample: no sample of {} has the serial number {}",
-        path, other
+        "--sample: serial {} is in {} but not in the pair 5 12 (see altuliscia --help)",
+        other, path
     );
-    assert!(trouble.to_string().starts_with(&told_of), "{}", trouble);
+    assert_eq!(
+        (trouble.status(), trouble.to_string()),
+        (2, told_of.clone())
+    );
+    let words = ["weights", "--pair", "12,5", "--sample", &other, &path];
+    assert_eq!(said(&words).unwrap_err().to_string(), told_of);
+    let words = ["trail", "--pair", "12,5", "--sample", "61", &path];
+    let told_of = format!("--sample: no sample of {} has the serial number 61", path);
+    let trouble = said(&words).unwrap_err().to_string();
+    assert!(trouble.starts_with(&told_of), "{}", trouble);
 }
 
 #[test]
@@ -349,7 +380,7 @@ fn a_file_may_have_more_samples_than_a_pair() {
     let trouble = told("train FILE MODEL", &path, &model).unwrap_err();
     let refused = |pair: &str| {
         format!(
-            "{}: 514 samples in the pair {}: refusal 1: The number of samples is 0 or above 512: lend 1 to 512 samples.",
+            "{}: 514 samples in the pair {}: 1 to 512 samples are trained (refusal 1)",
             path, pair
         )
     };
@@ -387,16 +418,10 @@ fn a_fault_is_told_once_with_its_first_pair() {
     let path = file(&f, "a", bad.as_bytes());
     let (text, done) = checked(&["-w9", "0", "-e", "-1", &path]);
     let starts = [
-        format!(
-            "{}:3: '3:nan', in the pair 7 9: refusal 3 at index 3: ",
-            path
-        ),
-        "-c, -w: the cost of label 9 is 0.0, in the pair 7 9: refusal 5 at index 1: ".to_string(),
-        format!(
-            "{}:3: '2:inf', in the pair 3 9: refusal 3 at index 2: ",
-            path
-        ),
-        "-e -1.0: refusal 8: ".to_string(),
+        format!("{}:3: '3:nan', in the pair 7 9: a kernel value ", path),
+        "-c must be above 0 and not above 2^1000, also where -w multiplies it: that of label 9 is 0.0, in the pair 7 9 (refusal 5)".to_string(),
+        format!("{}:3: '2:inf', in the pair 3 9: a kernel value ", path),
+        "-e must be 0 or above it, and finite: it is -1.0 (refusal 8)".to_string(),
         format!("{}: 3 samples of 3 labels, 4 faults", path),
     ];
     let lines: Vec<&str> = text.lines().collect();
@@ -456,7 +481,10 @@ fn what_is_not_well_is_told_with_its_pair() {
     let text = drawn(60);
     let path = file(&f, "all", text.as_bytes());
     let line = "train -c 10 -e 1e-7 --budget 150 FILE MODEL";
-    let summary = told(line, &path, "/dev/null").unwrap();
+    let files = [&path[..], "/dev/null"];
+    let words: Vec<&str> = line.split(' ').take(7).chain(files).collect();
+    let (status, summary, err) = whole(&words);
+    assert_eq!(status, 6);
     let spent: Vec<&str> = summary
         .split("\n\n")
         .filter(|part| part.ends_with("\nexit reason: iterations (all 150 of the budget)"))
@@ -473,29 +501,29 @@ fn what_is_not_well_is_told_with_its_pair() {
         labels.join(", ")
     );
     assert!(summary.ends_with(&end), "{}", summary);
-    let line = line.replace("train", "train -q");
-    let (out, err) = both(&line, &path, "/dev/null").unwrap();
-    let lines = spent.iter().map(|name| {
-        format!(
-            "{}: exit reason: iterations (all 150 of the budget)\n",
-            name
-        )
-    });
-    assert_eq!((out, err), (String::new(), lines.collect::<String>()));
+    // Each of them is named.
+    let named = |labels: &&str| format!("pair {}: the budget ran out, all 150 of it", labels);
+    let named: Vec<String> = labels.iter().map(named).collect();
+    let expected = format!(
+        "altuliscia: not to be released: {}; no model was written (--write-anyway writes it)\n",
+        named.join("; ")
+    );
+    assert_eq!(err, expected);
+    let quiet = whole(&[&["train", "-q"], &words[1..]].concat());
+    assert_eq!(quiet, (6, String::new(), err));
     // A rho that isn't finite: of the first pair, in which every kernel value is 0.
     let zeros = "1 0:1 1:0 2:0 3:0 4:0\n2 0:2 1:0 2:0 3:0 4:0\n3 0:3 1:0 2:0 3:1 4:0\n3 0:4 1:0 2:0 3:0 4:1\n";
     let zeros = file(&f, "zeros", zeros.as_bytes());
-    let (_, err) = both("train -q -s 1 -n 0.5 FILE MODEL", &zeros, "/dev/null").unwrap();
-    let note =
-        "pair 1 of 3: 1 2: note: rho is nan, so everything is sorted into one and the same class\n";
-    assert!(err.contains(note), "{}", err);
+    let (status, _, err) = whole(&["train", "-q", "-s1", "-n.5", &zeros, "/dev/null"]);
+    let reason = "not to be released: pair 1 2: r, by which the weights are divided, is 0.0; ";
+    assert!(status == 6 && err.contains(reason), "{}", err);
     // The note on shrinking stands once.
-    let summary = told("train -c 0.01 -h 1 FILE MODEL", &path, "/dev/null").unwrap();
-    assert_eq!(summary.matches("note: with -h 1").count(), 1);
+    let (_, err) = both("train -c 0.01 -h 1 FILE MODEL", &path, "/dev/null").unwrap();
+    assert_eq!(err.matches("note: with -h 1").count(), 1);
     let (_, err) = both("train -q -c 0.01 -h 1 FILE MODEL", &path, "/dev/null").unwrap();
     assert_eq!(err.matches("note: with -h 1").count(), 1);
     let summary = told("train --floor 1e-12 FILE MODEL", &path, "/dev/null").unwrap();
-    assert_eq!(summary.matches("\nfloor = 1e-12\nexit reason: ").count(), 1);
+    assert_eq!(summary.matches("\nfloor = 1e-12\noptions: ").count(), 1);
 }
 
 /// A weight that is listed and not counted, in one pair and in all.
@@ -503,9 +531,12 @@ fn what_is_not_well_is_told_with_its_pair() {
 fn what_is_listed_and_not_counted_is_told() {
     let f = folder("several-faint");
     let (path, model) = (file(&f, "a", THREE.as_bytes()), file(&f, "model", b"old"));
-    let text = told("train -c 1e-14 FILE MODEL", &path, &model).unwrap();
+    let words = ["train", "-c1e-14", "--write-anyway", &path, &model];
+    let (status, text, err) = whole(&words);
+    assert_eq!(status, 6);
+    assert_eq!(err.matches(": there is no support vector").count(), 3);
     let end =
-        "\nTotal nSV = 0\nsamples in the model: 3 (3 of them not counted as support)\nexit reason";
+        "\nTotal nSV = 0\nsamples in the model: 3 (3 of them not counted as support)\noptions: ";
     assert!(text.contains(end), "{}", text);
     assert_eq!(
         text.matches("\nweights in the model: 2 (2 of them at most")
@@ -531,9 +562,8 @@ fn a_pair_that_is_refused_in_its_run_is_named() {
     let text = format!("{}5 0:65{} 65:1\n", pairs, zeros);
     let (path, model) = (file(&f, "a", text.as_bytes()), file(&f, "model", b"old"));
     let trouble = told("train -h 1 -e 1e-7 FILE MODEL", &path, &model).unwrap_err();
-    let start = format!("{}: pair 1 of 3: 1 0: refusal 11: ", path);
-    assert_eq!(trouble.status(), 21);
-    assert!(trouble.to_string().starts_with(&start), "{}", trouble);
+    let told_of = format!("{}: pair 1 of 3: 1 0: shrinking would have taken more samples out than were active: train with -h 0 (refusal 11)", path);
+    assert_eq!((trouble.status(), trouble.to_string()), (21, told_of));
     assert_eq!(fs::read(&model).unwrap(), b"old");
 }
 

@@ -261,7 +261,7 @@ fn what_is_wrong_with_the_model_is_told_with_its_line() {
     let model = file(&f, "one", b"old");
     told("train -q -s 2 FILE MODEL", &train, &model).unwrap();
     let text = refused(&fs::read(&model).unwrap());
-    assert!(text.ends_with(": svm_type one_class: a model of classes is needed, c_svc or nu_svc"));
+    assert!(text.ends_with(": svm_type one_class: a model of classes is needed, c_svc or nu_svc (`decide` takes this one)"));
     let trouble = told("sort no-such-model FILE", &held, "").unwrap_err();
     assert_eq!(trouble.status(), 3);
     assert!(trouble.to_string().starts_with("no-such-model: "));

@@ -1,12 +1,14 @@
 //! Where a weight came from, as the command line tells it.
 mod common;
 mod over;
+mod whole;
 
 use captions::Figures;
 use command::{run, Trouble};
 use common::{file, folder, own, said, told, SMALL};
 use over::OVER;
 use std::fs;
+use whole::whole;
 
 const RECORDED: &str = include_str!("../../../captions/cs-sk.trail.expected");
 
@@ -186,8 +188,8 @@ fn a_sample_that_is_not_there_is_told() {
     let twice = SMALL.replace("0:2", "0:1");
     let path = file(&f, "twice.txt", twice.as_bytes());
     let trouble = told("trail --sample 1 FILE", &path, "").unwrap_err();
-    let start = "--sample: the serial number 1 is that of several samples: ";
-    assert!(trouble.to_string().starts_with(start), "{}", trouble);
+    let told = format!("{}:2: the serial number 1 is that of line 1, too", path);
+    assert_eq!((trouble.status(), trouble.to_string()), (3, told));
 }
 
 /// The serial number is the file's, wherever its sample stands.
@@ -288,10 +290,14 @@ fn how_the_run_ended_is_told_beside_it() {
     };
     let (out, err) = of(&["--retired", "3"]);
     assert!(err.starts_with("exit reason: threshold\nrho = "));
-    assert!(err.ends_with("\nretired: 3 (1 of 10 samples)\n"));
+    let end = "\nretired: 3 (1 of 10 samples)\noptions: -s 0 -c 1.0 -e 0.001 -h 0 --budget 10000000 --floor 1e-10\n";
+    assert!(err.ends_with(end), "{}", err);
     assert_eq!(of(&["--retired", "3", "-q"]), (out, String::new()));
-    let (out, err) = of(&["-q", "--budget", "2"]);
-    assert_eq!(err, "exit reason: iterations (all 2 of the budget)\n");
+    // What isn't to be released is followed all the same.
+    let words = ["trail", "--sample", "2", "-q", "--budget", "2", &path];
+    let (status, out, err) = whole(&words);
+    let told = "altuliscia: not to be released: the budget ran out, all 2 of it\n";
+    assert_eq!((status, err.as_str()), (6, told));
     assert!(out.contains(" of the 2 steps chose it"));
 }
 
@@ -324,9 +330,7 @@ fn help_tells_of_it() {
     ] {
         assert!(help.contains(part), "{}", part);
     }
-    assert!(help.contains("5 a trail isn't what the library\nanswers"));
+    assert!(help.contains("5 a trail or a decision isn't what\nthe library answers"));
     let all = told("--help", "", "").unwrap();
     assert!(all.contains("\n  altuliscia trail --sample S FILE\n"));
-    let weights = told("weights --help", "", "").unwrap();
-    assert!(!weights.contains("--sample"));
 }

@@ -1,0 +1,192 @@
+//! What a model says of its training: comment lines behind its last weight, which LIBSVM's reader never comes to.
+use crate::arguments::{self, Fit, Settings};
+use crate::model::double;
+use crate::problem::Samples;
+use crate::sha256::Sha256;
+use altuliscia::ExitReason;
+
+/// The record of a model.
+#[derive(Clone, Debug, PartialEq)]
+pub struct Record {
+    pub version: String,
+    /// The options that had a say, as `train` takes them.
+    pub options: String,
+    /// The serial numbers of the retired.
+    pub retired: Vec<u64>,
+    /// Why each training ended: one, or one a pair.
+    pub exits: Vec<String>,
+    /// Why the model isn't to be released, where it isn't.
+    pub unfit: Option<String>,
+    /// How many samples were trained on, retired ones too, and their hash.
+    pub samples: u64,
+    pub hash: String,
+}
+
+/// The names of the lines, in their order. The last has the sum of all lines of the model above it.
+const NAMES: [&str; 7] = [
+    "altuliscia",
+    "options",
+    "retired",
+    "exit",
+    "release",
+    "samples",
+    "sum",
+];
+
+impl Record {
+    /// Of a training of these samples that ended so.
+    pub fn of(
+        s: &Samples,
+        settings: &Settings,
+        ends: &[ExitReason],
+        unfit: Option<String>,
+    ) -> Record {
+        let gone = (0..s.n).filter(|k| s.retired[*k]);
+        let word = |end: &ExitReason| match end {
+            ExitReason::Threshold => "threshold".to_string(),
+            ExitReason::Iterations => "iterations".to_string(),
+        };
+        Record {
+            version: env!("CARGO_PKG_VERSION").to_string(),
+            options: options(s, settings),
+            retired: gone.map(|k| s.serials[k]).collect(),
+            exits: ends.iter().map(word).collect(),
+            unfit,
+            samples: s.n as u64,
+            hash: hash(s),
+        }
+    }
+
+    /// A model's text with its record behind it.
+    pub fn behind(&self, model: &str) -> String {
+        let retired: Vec<String> = self.retired.iter().map(u64::to_string).collect();
+        let words = [
+            self.version.clone(),
+            self.options.clone(),
+            match retired.is_empty() {
+                true => "none".to_string(),
+                false => retired.join(","),
+            },
+            self.exits.join(" "),
+            match &self.unfit {
+                None => "yes".to_string(),
+                Some(why) => format!("no: {}", why),
+            },
+            format!("{} {}", self.samples, self.hash),
+        ];
+        let lines = NAMES.iter().zip(words);
+        let lines: String = lines.map(|(n, w)| format!("# {} {}\n", n, w)).collect();
+        let text = format!("{}{}", model, lines);
+        format!("{}# sum {}\n", text, sum(text.lines()))
+    }
+
+    /// The record in a model's lines from the one of that number on, counted from 0. An error has its line, counted from 1.
+    pub fn read(lines: &[&str], from: usize) -> Result<Record, (usize, String)> {
+        let mut words = Vec::new();
+        for (k, name) in NAMES.iter().enumerate() {
+            let at = from + k;
+            let line = lines.get(at).ok_or_else(|| {
+                let told = format!("the record ends before its line '# {}'", name);
+                (at, told)
+            })?;
+            let word = line.strip_prefix(&format!("# {} ", name));
+            words.push(word.ok_or_else(|| {
+                let told = format!("'{}' stands where '# {} ..' should", line, name);
+                (at + 1, told)
+            })?);
+        }
+        let end = from + NAMES.len();
+        if lines.len() > end {
+            let told = "something stands behind the record, which ends with its sum";
+            return Err((end + 1, told.to_string()));
+        }
+        if words[6] != sum(lines[..end - 1].iter().copied()) {
+            let told = "the sum isn't that of the lines above it: they were changed since they were written";
+            return Err((end, told.to_string()));
+        }
+        let record = parsed(&words);
+        record.ok_or_else(|| (from + 1, "this record can't be read".to_string()))
+    }
+
+    /// The options once more, as a call has them.
+    pub fn settings(&self) -> Option<Settings> {
+        arguments::settings(&self.options).ok()
+    }
+}
+
+/// A record of its lines' words.
+fn parsed(words: &[&str]) -> Option<Record> {
+    let (samples, hash) = words[5].split_once(' ')?;
+    let retired = match words[2] {
+        "none" => Vec::new(),
+        list => list
+            .split(',')
+            .map(|s| s.parse().ok())
+            .collect::<Option<_>>()?,
+    };
+    let unfit = match words[4] {
+        "yes" => None,
+        other => Some(other.strip_prefix("no: ")?.to_string()),
+    };
+    let record = Record {
+        version: words[0].to_string(),
+        options: words[1].to_string(),
+        retired,
+        exits: words[3].split(' ').map(str::to_string).collect(),
+        unfit,
+        samples: samples.parse().ok()?,
+        hash: hash.to_string(),
+    };
+    record.settings().map(|_| record)
+}
+
+/// The hash of lines, each with a line feed at its end: a text whose line ends were changed has the same.
+fn sum<'a>(lines: impl Iterator<Item = &'a str>) -> String {
+    let mut hash = Sha256::new();
+    for line in lines {
+        hash.add(line.as_bytes());
+        hash.add(b"\n");
+    }
+    hash.digits()
+}
+
+/// The options that have a say in a training, as `train` takes them.
+pub fn options(s: &Samples, settings: &Settings) -> String {
+    let mut words = match settings.fit {
+        Fit::C => format!("-s 0 -c {}", double(settings.cost)),
+        Fit::Nu => format!("-s 1 -n {}", double(settings.nu)),
+        Fit::OneClass => format!("-s 2 -n {}", double(settings.nu)),
+    };
+    for (label, factor) in &settings.weights {
+        if settings.fit == Fit::C && s.classes.contains(label) {
+            words += &format!(" -w{} {}", label, double(*factor));
+        }
+    }
+    format!(
+        "{} -e {} -h {} --budget {} --floor {}",
+        words,
+        double(settings.eps),
+        u8::from(settings.shrinking),
+        settings.budget,
+        double(settings.floor)
+    )
+}
+
+/// The hash of samples, as the library gets them, with their serial numbers: n in eight bytes, the matrix column by column, each entry in
+/// eight, the labels in one each, the serial numbers in eight each; the lowest byte first. A label is 1 for the first class and 0 for the
+/// second; of more classes it is the place of each from 0 on, and of one class there is none. It doesn't hang on who is retired.
+pub fn hash(s: &Samples) -> String {
+    let mut hash = Sha256::new();
+    hash.add(&(s.n as u64).to_le_bytes());
+    for column in s.matrix.chunks(s.n.max(1)) {
+        let bytes = column.iter().flat_map(|x| x.to_bits().to_le_bytes());
+        hash.add(&bytes.collect::<Vec<u8>>());
+    }
+    if !s.classes.is_empty() {
+        hash.add(&s.labels);
+    }
+    for serial in &s.serials {
+        hash.add(&serial.to_le_bytes());
+    }
+    hash.digits()
+}
