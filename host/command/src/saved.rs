@@ -1,5 +1,6 @@
 //! Model files read again: LIBSVM's text for a precomputed kernel, of two to twelve classes or of one, and the record behind it.
 use crate::arguments::Fit;
+use crate::model::double;
 use crate::problem::whole;
 use crate::record::Record;
 use crate::{input, text, Trouble};
@@ -79,8 +80,8 @@ impl Model {
                 .into_iter()
                 .find(|(_, rho)| !rho.is_finite());
             wrong.map(|(name, rho)| match name.is_empty() {
-                true => format!("rho is {}", rho),
-                false => format!("the rho of the pair {} is {}", name, rho),
+                true => format!("rho is {}", double(rho)),
+                false => format!("the rho of the pair {} is {}", name, double(rho)),
             })
         };
         let nobody = || {

@@ -1,0 +1,277 @@
+//! What is wrong, or worse than it looks, and is told.
+mod common;
+mod whole;
+
+use common::{both, file, folder, own, told, SMALL};
+use std::fs;
+use whole::whole;
+
+/// The four that read a problem, each with its own words.
+const COMMANDS: [&[&str]; 4] = [
+    &["train"],
+    &["weights"],
+    &["check"],
+    &["trail", "--sample", "1"],
+];
+
+#[test]
+fn a_serial_number_of_two_lines_is_a_fault() {
+    let f = folder("wrong-twice");
+    // Of three labels, too, and where the two lines are of another pair than the one that is asked for.
+    let two = "7 0:1 1:1 2:0 3:0\n3 0:2 1:0 2:1 3:0\n7 0:1 1:0 2:0 3:1\n";
+    let three = two.replace("\n7", "\n9");
+    for (text, more) in [
+        (two.to_string(), &[][..]),
+        (two.to_string(), &["--part"]),
+        (three.clone(), &["--pair", "7,3"]),
+        (three, &["--pair", "3,9", "--part"]),
+    ] {
+        let path = file(&f, "a", text.as_bytes());
+        let line = format!("{}:3: the serial number 1 is that of line 1, too", path);
+        for command in COMMANDS {
+            let words = [command, more, &[&path]].concat();
+            let (status, out, err) = whole(&words);
+            assert_eq!(status, 3, "{:?}", words);
+            let place = if command[0] == "check" { &out } else { &err };
+            assert!(place.contains(&line), "{:?} {}", words, place);
+        }
+    }
+    let path = file(&f, "b", two.replace("7 0:1 1:0", "9 0:1 1:0").as_bytes());
+    let model = file(&f, "model", b"old");
+    let trouble = told("train FILE MODEL", &path, &model).unwrap_err();
+    assert_eq!(trouble.status(), 3);
+    assert_eq!(fs::read(&model).unwrap(), b"old");
+}
+
+#[test]
+fn a_serial_number_without_a_line_is_a_fault() {
+    let f = folder("wrong-part");
+    let path = file(&f, "a", SMALL.replace('\n', " 3:9\n").as_bytes());
+    let line = format!(
+        "{}: 2 lines of 3 kernel values each: the serial number 3 has no line (--part takes a file that has some of the samples only)",
+        path
+    );
+    let model = f.join("model").to_str().unwrap().to_string();
+    for command in COMMANDS {
+        let words = [command, &[&path]].concat();
+        let (status, out, err) = whole(&words);
+        let place = if command[0] == "check" { &out } else { &err };
+        assert!(status == 3 && place.contains(&line), "{}", place);
+        let words = [
+            command,
+            &["--part", &path],
+            &[model.as_str()][..usize::from(command[0] == "train")],
+        ];
+        assert_eq!(whole(&words.concat()).0, 0, "{:?}", command);
+    }
+}
+
+/// Of each reason: what is told, and that no model is written unless that is asked for.
+#[test]
+fn what_is_not_to_be_released_has_status_6() {
+    let f = folder("wrong-unfit");
+    let zeros = own(4, &[0.0; 16], &[1, 1, 0, 0]);
+    let four = [
+        4., -4., 3., -3., -4., 3., 2., -2., 3., 2., 4., 0., -3., -2., 0., 5.,
+    ];
+    let small = SMALL.as_bytes().to_vec();
+    for (data, options, why) in [
+        (
+            small.clone(),
+            "--budget 1",
+            "the budget ran out, all 1 of it",
+        ),
+        (
+            small.clone(),
+            "-s 1 -n 1",
+            "r, by which the weights are divided, is inf",
+        ),
+        (
+            zeros,
+            "-s 1 -n 0.25",
+            "r, by which the weights are divided, is 0.0",
+        ),
+        (
+            own(4, &four, &[1, 0, 1, 1]),
+            "-e 0 -h 1 --budget 100",
+            "rho is nan, so everything is sorted into one and the same class; train with -h 0",
+        ),
+        (small, "-c 1e-14", "there is no support vector"),
+    ] {
+        let (path, model) = (file(&f, "file", &data), f.join("model"));
+        let model = model.to_str().unwrap();
+        let _ = fs::remove_file(model);
+        let options: Vec<&str> = options.split(' ').collect();
+        let train = [&["train"][..], &options, &[&path, model]].concat();
+        let told = |rest: &str| format!("altuliscia: not to be released: {}{}\n", why, rest);
+        let (status, out, err) = whole(&train);
+        assert!(status == 6 && out.contains("exit reason: "), "{}", err);
+        let end = told("; no model was written (--write-anyway writes it)");
+        assert!(err.ends_with(&end), "{}", err);
+        assert!(!f.join("model").exists());
+        let (status, _, err) = whole(&[&train[..], &["--write-anyway"]].concat());
+        let end = told(&format!("; {} was written all the same", model));
+        assert!(status == 6 && err.ends_with(&end), "{}", err);
+        // The model says so itself, to whoever reads it.
+        let written = fs::read_to_string(model).unwrap();
+        assert!(written.contains(&format!("\n# release no: {}\n", why)));
+        let isnt = format!("{} isn't to be released: {}\n", model, why);
+        for words in [&["show", model][..], &["weights", model]] {
+            let (status, _, err) = whole(words);
+            assert!(status == 6 && err.ends_with(&isnt), "{}", err);
+        }
+        let held = file(&f, "held", b"0:1 1:1 2:0 3:0 4:0\n");
+        for words in [["sort", "-q", model, &held], ["decide", "-q", model, &held]] {
+            assert_eq!(whole(&words).2, format!("note: {}", isnt));
+        }
+        let (status, out, err) = whole(&[&["weights"][..], &options, &[&path]].concat());
+        assert!(status == 6 && err.ends_with(&told("")), "{}", err);
+        assert!(out.starts_with("sample serial "));
+        if !options.contains(&"-h") {
+            let words = [&["trail", "--sample", "1"][..], &options, &[&path]].concat();
+            let (status, out, err) = whole(&words);
+            assert!(status == 6 && err.ends_with(&told("")), "{}", err);
+            assert!(out.starts_with("serial 1, sample 0"));
+        }
+    }
+}
+
+/// A model of svm-train has no record, but its rho tells.
+#[test]
+fn a_rho_that_is_not_finite_is_told_where_it_is_sorted_by() {
+    let f = folder("wrong-rho");
+    let head = "svm_type c_svc\nkernel_type precomputed\nnr_class 3\ntotal_sv 1\nrho 0 nan inf\nlabel 7 3 9\nnr_sv 1 0 0\nSV\n1 1 0:1\n";
+    let model = file(&f, "model", head.as_bytes());
+    let held = file(&f, "held", b"7 0:1 1:1\n");
+    let note = format!(
+        "note: {} isn't to be released: the rho of the pair 7,9 is nan\n",
+        model
+    );
+    let (_, err) = both("sort -q MODEL FILE", &held, &model).unwrap();
+    assert_eq!(err, note);
+    let none = head.replace("total_sv 1", "total_sv 0");
+    let none = none
+        .replace("nr_sv 1", "nr_sv 0")
+        .replace("rho 0 nan inf", "rho 0 0 0");
+    let model = file(&f, "model", none.replace("1 1 0:1\n", "").as_bytes());
+    let (_, err) = both("sort -q MODEL FILE", &held, &model).unwrap();
+    let note = format!("note: {} isn't to be released: it lists no weight\n", model);
+    assert_eq!(err, note);
+}
+
+#[test]
+fn a_nu_that_can_not_be_met_is_a_fault_of_the_words() {
+    let f = folder("wrong-nu");
+    let line = |label: i32, k: usize| {
+        let values: String = (1..=5)
+            .map(|j| format!(" {}:{}", j, u8::from(j == k)))
+            .collect();
+        format!("{} 0:{}{}\n", label, k, values)
+    };
+    let text = |labels: [i32; 5]| -> String { (1..=5).map(|k| line(labels[k - 1], k)).collect() };
+    let path = file(&f, "a", text([4, 2, 2, 2, 2]).as_bytes());
+    let fault = "-n 0.5 can't be met: half of it times 5 samples is above 1, the number of those of label 4 (see altuliscia --help)";
+    for command in COMMANDS {
+        let (status, out, err) = whole(&[command, &["-s", "1", &path]].concat());
+        let place = if command[0] == "check" { &out } else { &err };
+        assert!(status == 2 && place.contains(fault), "{}", place);
+        // 2*1/5 can be.
+        if command[0] != "train" {
+            let (status, ..) = whole(&[command, &["-s1", "-n0.4", &path]].concat());
+            assert!([0, 6].contains(&status));
+        }
+    }
+    // The rarer label may be the second.
+    let turned = file(&f, "b", text([2, 2, 4, 2, 2]).as_bytes());
+    let (_, out, _) = whole(&["check", "-s1", &turned]);
+    assert!(out.starts_with(fault), "{}", out);
+    // Of several, each pair that meets it; one class has no such rule, nor has a cost.
+    let three = file(&f, "c", text([4, 2, 2, 2, 9]).as_bytes());
+    let (status, out, _) = whole(&["check", "-s1", "-n.75", &three]);
+    let told = |label, pair| {
+        format!("-n 0.75 can't be met: half of it times 4 samples is above 1, the number of those of label {}, in the pair {} (see altuliscia --help)", label, pair)
+    };
+    let expected = [
+        told(4, "4 2"),
+        told(9, "2 9"),
+        format!("{}: 5 samples of 3 labels, 2 faults", three),
+    ];
+    assert_eq!(out.lines().collect::<Vec<_>>(), expected);
+    assert_eq!(status, 2);
+    assert_eq!(whole(&["train", "-s1", "-n.75", &three, "/dev/null"]).0, 2);
+    assert_eq!(whole(&["check", "-s2", "-n.75", &three]).0, 0);
+    assert_eq!(whole(&["check", &three]).0, 0);
+}
+
+#[test]
+fn a_kernel_that_is_not_symmetric_gets_a_note() {
+    let f = folder("wrong-sides");
+    let text = "7 0:2 1:0 2:1 3:5\n3 0:1 1:1 2:0.25 3:0\n7 0:3 1:0 2:5 3:9\n";
+    let path = file(&f, "a", text.as_bytes());
+    let note = "note: the kernel isn't symmetric: serial 2 has 0.0 with serial 1, which has 0.25 with it; 1 of two samples differ so, and none by more\n";
+    for command in COMMANDS {
+        let words = [
+            command,
+            &["-q", &path],
+            &["/dev/null"][..usize::from(command[0] == "train")],
+        ];
+        let (status, _, err) = whole(&words.concat());
+        assert_eq!((status, err.as_str()), (0, note), "{:?}", command);
+    }
+    // What is retired has no say; with three labels it is told once, with its pair.
+    assert_eq!(whole(&["check", &path, "--retired", "2"]).2, "");
+    let three = file(&f, "b", text.replace("7 0:3", "9 0:3").as_bytes());
+    let (_, _, err) = whole(&["train", "-q", &three, "/dev/null"]);
+    assert_eq!(err, format!("{}, in the pair 7 3\n", note.trim_end()));
+    let good = file(&f, "c", text.replace("0.25", "0").as_bytes());
+    assert_eq!(whole(&["check", &good]).2, "");
+}
+
+#[test]
+fn costs_that_differ_get_a_note() {
+    let f = folder("wrong-costs");
+    let path = file(&f, "a", SMALL.as_bytes());
+    let note = "note: the costs differ: label 7 has 0.5, label 3 has 1.0; it isn't promised then that every weight lies in 0..ceiling\n";
+    for command in COMMANDS {
+        let words = [
+            command,
+            &["-q", "-w7", "0.5", &path],
+            &["/dev/null"][..usize::from(command[0] == "train")],
+        ];
+        assert_eq!(whole(&words.concat()).2, note, "{:?}", command);
+    }
+    // The same factor for both is none.
+    assert_eq!(whole(&["check", "-w7", "2", "-w3", "2", &path]).2, "");
+    assert_eq!(whole(&["check", "-s1", "-w7", "2", &path]).2, "");
+}
+
+/// A value beside a serial number of the model has a say; any other may be what it likes.
+#[test]
+fn a_value_that_is_not_finite_is_marked() {
+    let f = folder("wrong-wild");
+    let model = file(&f, "model", b"old");
+    let train = file(&f, "small", SMALL.as_bytes());
+    told("train -q FILE MODEL", &train, &model).unwrap();
+    let text = "7 0:1 1:1 2:0 3:nan\n7 0:2 1:nan 2:inf\n3 0:3 1:0 2:-inf\n";
+    let path = file(&f, "held", text.as_bytes());
+    let note = "note: a kernel value that isn't finite has a say in 2 of the captions, the first in line 2\n";
+    let (out, err) = both("sort -q MODEL FILE", &path, &model).unwrap();
+    let lines: Vec<&str> = out.lines().skip(1).collect();
+    let expected = [
+        "     1      1      7       7      1          3      0",
+        "     2      2      7       3      1          7      0  K(1) is nan",
+        "     3      3      3       7      1          3      0  K(2) is -inf",
+    ];
+    assert_eq!((lines, err.as_str()), (expected.to_vec(), note));
+    let (out, err) = both("sort -q --labels MODEL FILE", &path, &model).unwrap();
+    assert_eq!((out.as_str(), err.as_str()), ("7\n3\n7\n", note));
+    let (out, err) = both("decide -q MODEL FILE", &path, &model).unwrap();
+    let lines: Vec<&str> = out.lines().collect();
+    let expected = [
+        "  line serial  label  sorted  7,3",
+        "     1      1      7       7  1.0",
+        "     2      2      7       3  nan                       K(1) is nan",
+        "     3      3      3       7  inf                       K(2) is -inf",
+    ];
+    assert_eq!((lines, err.as_str()), (expected.to_vec(), note));
+}
