@@ -531,3 +531,25 @@ fn decisions_are_those_that_svm_predict_labels_by() {
     assert_eq!(decided, decisions(&model_in(&folder), &held));
     assert!(decided.len() == 600 && decided.iter().all(|d| d.len() == 15));
 }
+
+/// LIBSVM's reader stops at the last weight: the record behind it has no say.
+#[test]
+fn a_record_is_read_over() {
+    if !there() {
+        return;
+    }
+    let (train, held) = six_languages(60, 120);
+    let folder = folder("read-over");
+    for options in [
+        "-c 10",
+        "-s 1 -n 0.13",
+        "-s 2 -n 0.3",
+        "-c 10 --retired 5,17",
+    ] {
+        let found = predicted(&folder, &train, &held, options);
+        let text = fs::read_to_string(folder.join("model")).unwrap();
+        assert_eq!(text.matches("\n# sum ").count(), 1);
+        fs::write(folder.join("model"), bare(&text)).unwrap();
+        assert_eq!(labelled(&folder), found, "{}", options);
+    }
+}

@@ -272,3 +272,40 @@ fn the_record_has_no_say_in_what_is_sorted() {
         assert_eq!(with, both(line, &path, &old).unwrap());
     }
 }
+
+/// What docs/MODEL.md shows is what is written, but for the version and the sum, and it names every field.
+#[test]
+fn the_page_shows_what_is_written() {
+    let page = include_str!("../../../docs/MODEL.md");
+    let f = folder("record-page");
+    let help = told("--help", "", "").unwrap();
+    let small = "1 0:1 1:1 2:0\n2 0:2 1:0 2:1\n";
+    assert!(help.contains(&small.replace('\n', "\n  ").trim_end().to_string()));
+    let (path, model) = (file(&f, "a", small.as_bytes()), file(&f, "model", b"old"));
+    told("train -q FILE MODEL", &path, &model).unwrap();
+    let text = fs::read_to_string(&model).unwrap();
+    let shown = |line: &str| match line.split(' ').nth(1) {
+        Some("altuliscia") => "    # altuliscia VERSION\n".to_string(),
+        Some("sum") => "    # sum SUM\n".to_string(),
+        _ => format!("    {}\n", line),
+    };
+    let block: String = text.lines().map(shown).collect();
+    assert!(page.contains(&block), "{}", block);
+    for line in record(&model) {
+        let name = line.split(' ').nth(1).unwrap();
+        assert!(page.contains(&format!("\n| {} | ", name)), "{}", name);
+    }
+    let csv = told("weights --csv FILE", &path, "").unwrap();
+    let head = csv.lines().next().unwrap();
+    assert!(page.contains(&format!("\n    {}\n", head)), "{}", head);
+    let json = told("weights --json FILE", &path, "").unwrap();
+    let names = json.lines().filter_map(|line| line.strip_prefix("  \""));
+    let names: Vec<&str> = names.map(|line| line.split('"').next().unwrap()).collect();
+    assert_eq!(names.len(), 10);
+    for name in names {
+        assert!(page.contains(&format!("`{}`", name)), "{}", name);
+    }
+    let decided = told("decide --csv MODEL FILE", &path, &model).unwrap();
+    let own = decided.split(",\"").next().unwrap();
+    assert!(page.contains(&format!("`{}`", own)), "{}", own);
+}

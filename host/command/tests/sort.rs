@@ -312,6 +312,10 @@ fn the_page_shows_what_is_told() {
     let (list, err) = both("sort --votes MODEL FILE", &held, &model).unwrap();
     let command = "target/release/altuliscia sort --votes target/panel.model problems/panel.held";
     assert_eq!(shown(page, command), list + &err);
+    let (list, _) = both("decide MODEL FILE", &held, &model).unwrap();
+    let command = "target/release/altuliscia decide target/panel.model problems/panel.held";
+    let some = [0, 1, 4].map(|k| format!("{}\n", list.lines().nth(k).unwrap()));
+    assert_eq!(shown(page, command), some.concat());
     let captions = include_str!("../../problems/panel.captions");
     let trained: Vec<&str> = captions.lines().collect();
     assert_eq!(trained.len(), TRAIN.lines().count());
