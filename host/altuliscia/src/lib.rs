@@ -5,12 +5,12 @@
 //! here panics, whatever is handed in. Calls keep no state, so they may be made from several threads at once.
 //!
 //! ```
-//! use altuliscia::{Options, Problem, Training, Tuned};
+//! use altuliscia::{Problem, Training, Tuned};
 //!
 //! let problem = Problem { matrix: &[1.0, 0.0, 0.0, 1.0], labels: &[true, false] };
 //! let training = Training::C { problem, cpos: 1.0, cneg: 1.0 };
 //! assert_eq!(training.cautions(), []); // what to know before it is trained
-//! let trained = training.train(&Tuned::from(Options::default()))?;
+//! let trained = training.train(&Tuned::default())?;
 //! assert_eq!(trained.unfit(), None); // why it is not to be released
 //! assert_eq!((trained.coefficients(), trained.rho()), (&[1.0, -1.0][..], 0.0));
 //!
@@ -169,8 +169,8 @@ impl Default for Options {
     }
 }
 
-/// The options, and what a run may be told beside them. It begins as `Tuned::from(options)`, which tells nothing: later versions may add
-/// fields.
+/// The options, and what a run may be told beside them. It begins as `Tuned::from(options)`, which tells nothing, or `Tuned::default()`, of
+/// the usual options: later versions may add fields.
 #[derive(Clone, Copy, Debug, PartialEq)]
 #[non_exhaustive]
 pub struct Tuned {
@@ -188,6 +188,12 @@ impl From<Options> for Tuned {
             options,
             floor: USUAL_FLOOR,
         }
+    }
+}
+
+impl Default for Tuned {
+    fn default() -> Tuned {
+        Tuned::from(Options::default())
     }
 }
 

@@ -165,11 +165,11 @@ pub struct Pair {
 /// Sorts captions into two to twelve languages: a training for each two of them, and the library's own count of their votes.
 ///
 /// ```
-/// use altuliscia::{Corpus, Options, Sorter, Tuned, Way};
+/// use altuliscia::{Corpus, Sorter, Tuned, Way};
 ///
 /// // One caption of each of three languages, each like itself alone.
 /// let corpus = Corpus::new(&[1.0, 0.0, 0.0, 0.0, 1.0, 0.0, 0.0, 0.0, 1.0], &[1, 2, 3]);
-/// let sorter = Sorter::train(&corpus, Way::C(1.0), &Tuned::from(Options::default()))?;
+/// let sorter = Sorter::train(&corpus, Way::C(1.0), &Tuned::default())?;
 /// assert!(sorter.releasable());
 ///
 /// // Something new, by its kernel values with the three captions.

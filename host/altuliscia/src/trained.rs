@@ -5,7 +5,7 @@ use std::fmt;
 /// What [`Training::train`] hands back.
 ///
 /// ```
-/// use altuliscia::{General, Options, Problem, Training, Tuned};
+/// use altuliscia::{General, Problem, Training, Tuned};
 ///
 /// let general = General {
 ///     problem: Problem { matrix: &[1.0, 0.0, 0.0, 1.0], labels: &[true, false] },
@@ -14,7 +14,7 @@ use std::fmt;
 ///     linear: &[-1.0, -1.0],
 ///     nu_rule: false,
 /// };
-/// let trained = Training::General(general).train(&Tuned::from(Options::default()))?;
+/// let trained = Training::General(general).train(&Tuned::default())?;
 /// assert_eq!(trained.answer.home, [1.0, 1.0]); // as the general fit answers: without a sign
 /// assert_eq!(trained.coefficients(), [1.0, -1.0]);
 /// assert_eq!((trained.rho(), trained.unfit()), (0.0, None));

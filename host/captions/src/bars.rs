@@ -180,6 +180,25 @@ mod tests {
         }
     }
 
+    /// What the README says of the picture.
+    #[test]
+    fn the_readme_names_the_least_and_the_most() {
+        let all = SOURCES.map(|source| rows(PAGE, &format!("### {}, shrinking off", source)));
+        let all = all.into_iter().flat_map(Result::unwrap);
+        let all: Vec<f64> = all.map(|row| row.library).collect();
+        let least = all.iter().copied().fold(f64::INFINITY, f64::min);
+        let most = all.iter().copied().fold(0.0, f64::max);
+        let words = format!(
+            "are between {:.2} and {:.2} of it.](docs/benchmarks.svg)",
+            least, most
+        );
+        assert!(
+            include_str!("../../../README.md").contains(&words),
+            "{}",
+            words
+        );
+    }
+
     #[test]
     fn numbers_are_those_of_their_columns() {
         let found = rows(PAGE, "### points, shrinking off").unwrap();
