@@ -1,6 +1,7 @@
 /* Makes each drawn call twice, by altuliscia_train_X and by altuliscia_X, and compares what is returned and every byte that is written;
  * so with a drawn tuning, with drawn steps, by altuliscia_find_pair and altuliscia_pair, and with drawn panels, by altuliscia_vote and
- * altuliscia_votes. Then what only the former can be handed. C99 and C++98. The exit status is 1 where anything differs. */
+ * altuliscia_votes. Then what only the former can be handed, and decisions beside the votes. C99 and C++98. The exit status is 1 where
+ * anything differs. */
 #include "altuliscia.h"
 
 #include <stdio.h>
@@ -411,6 +412,36 @@ static void many(void) {
     expect("a NaN stays one, a zero as it is", again[0] != again[0] && altuliscia_bits(again[1]) == 0 && altuliscia_bits(again[2]) >> 63);
 }
 
+/* Drawn weights and values: the decision's sign is the vote of altuliscia_votes, and the ways to sign are one. Of NaN and infinities the
+ * votes differ where they stand beside a 0, so there are none. */
+static void decided(void) {
+    static double home[40], coefficients[40], values[40];
+    int positive = 0, zero = 0, run;
+    for (run = 0; run < RUNS; run++) {
+        const uint64_t count = 1 + below(40);
+        const double rho = ((double)below(65) - 32) / 8;
+        uint64_t votes[2];
+        altuliscia_election e;
+        size_t s, n = (size_t)count;
+        for (s = 0; s < n; s++) {
+            home[s] = below(3) ? (double)below(1000) / 7 : 0;
+            values[s] = ((double)below(2001) - 1000) / (below(2) ? 3 : 1024);
+            labels[s] = (uint8_t)below(2);
+        }
+        if (run % 4 == 0)
+            for (s = 0; s < n; s++)
+                home[s] = (double)below(2), values[s] = ((double)below(9) - 4) / 4;
+        altuliscia_sign(n, home, labels, coefficients);
+        const double found = altuliscia_decide(n, coefficients, rho, values);
+        expect("signed or by label", altuliscia_bits(found) == altuliscia_bits(altuliscia_decide_by_label(n, home, labels, rho, values)));
+        expect("no refusal", altuliscia_vote(2, coefficients, values, &count, &rho, votes, &e) == 0);
+        expect("the vote is the sign's", (found >= 0) == (e.winner == 1));
+        positive += found > 0;
+        zero += found == 0;
+    }
+    expect("decisions of each kind", positive > RUNS / 4 && positive < 3 * RUNS / 4 && zero > 5);
+}
+
 /* The same with a tuning. */
 static void odd_tuned(void) {
     const double m[] = {1, 0, 0, 1}, d[] = {1, 1};
@@ -471,6 +502,7 @@ int main(void) {
     odd();
     released();
     many();
+    decided();
     odd_tuned();
     odd_votes();
     return differ || failed;
