@@ -50,6 +50,7 @@ fn an_asymmetric_kernel_is_told_by_its_farthest_entry() {
     matrix[5] += 1e-9; // column 1, row 0
     matrix[3 * 5 + 2] -= 2.5; // column 3, row 2
     matrix[4] += 0.5; // column 0, row 4
+    matrix[3 * 5 + 4] += 0.25; // column 3, row 4
     let problem = Problem {
         matrix: &matrix,
         labels: &l.labels,
@@ -59,7 +60,7 @@ fn an_asymmetric_kernel_is_told_by_its_farthest_entry() {
         row: 3,
         entry: matrix[2 * 5 + 3],
         mirrored: matrix[2 * 5 + 3] - 2.5,
-        count: 3,
+        count: 4,
     };
     assert_eq!(c(problem, 1.0, 1.0).cautions(), [expected]);
     let samples = OneClass {
@@ -73,16 +74,17 @@ fn an_asymmetric_kernel_is_told_by_its_farthest_entry() {
     let words = expected.to_string();
     assert!(words.contains("column 2, row 3, counted from 0, is "));
     assert!(
-        words.ends_with("; 3 below the diagonal differ"),
+        words.ends_with("; 4 below the diagonal differ"),
         "{}",
         words
     );
     // What is given for retired samples has no say.
     let (cpos, cneg) = (1.0, 1.0);
     for (retired, count) in [
-        ([true, false, true, false, false], 0),
-        ([false, false, true, false, false], 2),
-        ([true, false, false, false, false], 1),
+        ([true, false, true, false, true], 0),
+        ([true, false, true, false, false], 1),
+        ([false, false, true, false, false], 3),
+        ([true, false, false, false, false], 2),
     ] {
         let retired = &retired[..];
         #[rustfmt::skip]
