@@ -406,6 +406,9 @@ static void many(void) {
     expect("no caption", a[0] == 0.125 && b[0] == 0.125);
     altuliscia_decide_rows_by_label(3, home, swapped, -0.125, 3, values, b);
     expect("the other way round", b[0] == -0.125 && b[1] == 1.125 && b[2] == 2.125);
+    /* Three times a third is 1, rounded by itself; merged with the sum it is below, and so the decision isn't 0. */
+    const double third[] = {1 + none, 1 / (3 + none)}, thrice[] = {none - 1, 3 + none}, unsigned_ones[] = {1 + none, 3 + none};
+    expect("unmerged", altuliscia_decide(2, thrice, 0, third) == 0 && altuliscia_decide_by_label(2, unsigned_ones, swapped, 0, third) == 0);
     altuliscia_sign(3, order, swapped, again);
     expect("in sample order", altuliscia_decide(3, again, 0, row) == 0 && again[0] == -big);
     altuliscia_sign(3, plain, y, again);

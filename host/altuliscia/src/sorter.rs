@@ -237,6 +237,11 @@ impl Sorter {
         self.languages
     }
 
+    /// How many captions were given to train on, retired ones too: so many kernel values [`Sorter::sort`] wants.
+    pub fn captions(&self) -> usize {
+        self.captions
+    }
+
     /// The pairs in the order of [`pairs`], with their trainings.
     pub fn pairs(&self) -> &[Pair] {
         &self.pairs

@@ -343,6 +343,7 @@ fn a_refusal_names_the_pair_and_the_entry_among_all() {
 fn a_caption_with_other_values_is_not_sorted() {
     let (matrix, labels) = drawn(1, 9, 3);
     let sorter = Sorter::train(&Corpus::new(&matrix, &labels), Way::C(1.0), &tuned()).unwrap();
+    assert_eq!(sorter.captions(), 9);
     for length in [0, 8, 10] {
         let told = sorter.sort(&vec![1.0; length]).unwrap_err().to_string();
         let words = format!(
