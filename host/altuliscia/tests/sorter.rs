@@ -233,36 +233,21 @@ fn cautions_have_the_numbers_among_all() {
 }
 
 #[test]
-fn what_is_wrong_is_told() {
-    let (matrix, labels) = drawn(1, 9, 3);
-    let corpus = Corpus::new(&matrix, &labels);
-    let (c, usual) = (Way::C(1.0), tuned());
+fn wrong_labels_are_told() {
+    let matrix = kernel(1, 9);
     let labelled = |labels: &[usize]| {
         let corpus = Corpus::new(&matrix, labels);
-        Sorter::train(&corpus, c, &usual).unwrap_err()
+        Sorter::train(&corpus, Way::C(1.0), &tuned()).unwrap_err()
     };
+    let label = |sample| NoSorter::Label { sample };
+    let missing = |language| NoSorter::Missing { language };
     for (labels, why, words) in [
-        (
-            [1, 2, 3, 1, 2, 0, 1, 2, 13],
-            NoSorter::Label { sample: 5 },
-            "the label of caption 5, ",
-        ),
-        (
-            [1, 2, 3, 1, 2, 3, 1, 2, 13],
-            NoSorter::Label { sample: 8 },
-            "the label of caption 8, ",
-        ),
+        ([1, 2, 3, 1, 2, 0, 1, 2, 13], label(5), "the label of cap"),
+        ([1, 2, 3, 1, 2, 3, 1, 2, 13], label(8), "the label of cap"),
+        ([1, usize::MAX, 3, 1, 2, 3, 1, 2, 3], label(1), "the label"),
         ([1; 9], NoSorter::Languages, "there are fewer"),
-        (
-            [3, 3, 3, 1, 1, 1, 3, 3, 3],
-            NoSorter::Missing { language: 2 },
-            "language 2 has no",
-        ),
-        (
-            [2; 9],
-            NoSorter::Missing { language: 1 },
-            "language 1 has no",
-        ),
+        ([3, 3, 3, 1, 1, 1, 3, 3, 3], missing(2), "language 2 has no"),
+        ([2; 9], missing(1), "language 1 has no"),
     ] {
         let told = labelled(&labels);
         assert_eq!(told, why);
@@ -270,73 +255,68 @@ fn what_is_wrong_is_told() {
     }
     assert_eq!(labelled(&[]), NoSorter::Languages);
     assert_eq!(labelled(&[1, 2]), NoSorter::Matrix { captions: 2 });
-    let told = Sorter::train(&Corpus::new(&matrix[1..], &labels), c, &usual).unwrap_err();
-    assert_eq!(
-        told.to_string(),
-        "the matrix hasn't 9 times 9 entries, as 9 labels say"
-    );
-    for length in [1, 8, 10] {
-        let retired = vec![true; length];
-        let told = Sorter::train(&corpus_with(&corpus, &retired), c, &usual);
-        assert_eq!(told, Err(NoSorter::Retired { captions: 9 }));
-    }
-    let mut retired = [false; 9];
-    let nu = Way::Nu(0.1);
-    assert!(Sorter::train(&corpus_with(&corpus, &retired), nu, &usual).is_ok());
-    retired[3] = true;
-    let told = Sorter::train(&corpus_with(&corpus, &retired), nu, &usual);
-    assert_eq!(told, Err(NoSorter::RetiredNu));
 }
 
 #[test]
-fn a_refusal_names_the_pair_and_the_entry_among_all() {
-    let (mut matrix, labels) = drawn(0, 9, 3);
-    let refused = |matrix: &[f64], way: Way, tuned: &Tuned| match Sorter::train(
-        &Corpus::new(matrix, &labels),
-        way,
-        tuned,
-    ) {
+fn lists_of_another_length_are_told() {
+    let (matrix, labels) = drawn(1, 9, 3);
+    let corpus = Corpus::new(&matrix, &labels);
+    let (c, nu) = (Way::C(1.0), Way::Nu(0.1));
+    let train = |corpus: &Corpus, way| Sorter::train(corpus, way, &tuned());
+    let told = train(&Corpus::new(&matrix[1..], &labels), c).unwrap_err();
+    let words = "the matrix hasn't 9 times 9 entries, as 9 labels say";
+    assert_eq!(told.to_string(), words);
+    for length in [1, 8, 10] {
+        let told = train(&corpus_with(&corpus, &vec![true; length]), c);
+        assert_eq!(told, Err(NoSorter::Retired { captions: 9 }));
+    }
+    let mut retired = [false; 9];
+    assert!(train(&corpus_with(&corpus, &retired), nu).is_ok());
+    retired[3] = true;
+    let told = train(&corpus_with(&corpus, &retired), nu);
+    assert_eq!(told, Err(NoSorter::RetiredNu));
+}
+
+/// The pair and the refusal of captions with a kernel of nine.
+fn refused(matrix: &[f64], way: Way, tuned: &Tuned) -> (usize, usize, Refusal) {
+    let labels = drawn(0, 9, 3).1;
+    match Sorter::train(&Corpus::new(matrix, &labels), way, tuned) {
         Err(NoSorter::Refused {
             first,
             second,
             refusal,
         }) => (first, second, refusal),
         other => panic!("{:?}", other),
-    };
+    }
+}
+
+#[test]
+fn a_refusal_names_the_pair_and_the_entry_among_all() {
+    let (mut matrix, c) = (kernel(0, 9), Way::C(1.0));
     let mut late = tuned();
     late.options.budget = 0;
-    assert_eq!(
-        refused(&matrix, Way::C(1.0), &late),
-        (1, 2, Refusal::Budget)
-    );
+    assert_eq!(refused(&matrix, c, &late), (1, 2, Refusal::Budget));
     let (cost, nu) = (Refusal::Ceiling { index: 0 }, Refusal::Nu);
     assert_eq!(refused(&matrix, Way::C(-1.0), &tuned()), (1, 2, cost));
     assert_eq!(refused(&matrix, Way::Nu(2.0), &tuned()), (1, 2, nu));
     for (column, row, first, second) in [(1, 2, 2, 3), (8, 3, 1, 3), (7, 7, 1, 2), (2, 8, 1, 3)] {
         let place = column * 9 + row;
+        let index = place as u64;
         let kept = std::mem::replace(&mut matrix[place], f64::NAN);
-        let refusal = Refusal::Kernel {
-            index: place as u64,
-        };
-        assert_eq!(
-            refused(&matrix, Way::C(1.0), &tuned()),
-            (first, second, refusal)
-        );
+        let expected = (first, second, Refusal::Kernel { index });
+        assert_eq!(refused(&matrix, c, &tuned()), expected);
         matrix[place] = kept;
     }
-    // 300 captions of each of two languages are too many for a pair.
+}
+
+#[test]
+fn too_many_captions_for_a_pair_are_told() {
     let labels: Vec<usize> = (0..600).map(|k| 1 + k % 2).collect();
-    let many = Sorter::train(
-        &Corpus::new(&vec![0.0; 360_000], &labels),
-        Way::C(1.0),
-        &tuned(),
-    );
+    let matrix = vec![0.0; 360_000];
+    let many = Sorter::train(&Corpus::new(&matrix, &labels), Way::C(1.0), &tuned());
     let told = many.unwrap_err().to_string();
-    assert!(
-        told.starts_with("languages 1 and 2: refusal 1: The number of samples"),
-        "{}",
-        told
-    );
+    let words = "languages 1 and 2: refusal 1: The number of samples";
+    assert!(told.starts_with(words), "{}", told);
 }
 
 #[test]

@@ -152,6 +152,13 @@ fn panel(f: &Figures, answer: &Answer, marked: &[usize], list: usize) -> Vec<Str
             &k.to_string(),
         ));
     }
+    lines
+}
+
+/// The axes of one list, with their titles.
+fn axes(list: usize) -> Vec<String> {
+    let feet = FEET[list];
+    let mut lines = Vec::new();
     for share in [0.0, 0.5, 1.0] {
         let label = format!("{}", CEILING * share);
         lines.push(text(
@@ -164,17 +171,12 @@ fn panel(f: &Figures, answer: &Answer, marked: &[usize], list: usize) -> Vec<Str
     }
     lines.push(line(SIDES.0, SIDES.1, feet, GREY));
     lines.push(line(SIDES.0, SIDES.1, feet - HEIGHT, DASHED));
-    lines
-}
-
-/// The titles of the axes.
-fn axes(list: usize) -> [String; 2] {
     let middle = (SIDES.0 + SIDES.1) / 2.0;
     let below = "caption, by its number from 0 on";
-    [
-        upright(18.0, FEET[list] - HEIGHT / 2.0, "weight without its sign"),
-        text(middle, FEET[list] + 36.0, "middle", GREY, below),
-    ]
+    let beside = "weight without its sign";
+    lines.push(upright(18.0, feet - HEIGHT / 2.0, beside));
+    lines.push(text(middle, feet + 36.0, "middle", GREY, below));
+    lines
 }
 
 fn legend(names: &[String; 2]) -> Vec<String> {
