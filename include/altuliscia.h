@@ -9,10 +9,12 @@
  *
  * How to use the answer. home[s] is the weight of sample s (its dual coefficient), K(s, x) the kernel value of sample s and something
  * new: the sum over the samples of home[s] * K(s, x), less rho, is the decision. From 0 on x is positive (under one class: of the
- * class), else, NaN too, negative. altuliscia_decide does this sum. altuliscia_c and altuliscia_nu answer weights that are signed by
- * label. Those of altuliscia_general and altuliscia_retired aren't: there each term is to be multiplied by 1 where the label is 1 and
- * by -1 where it is 0, which altuliscia_decide_by_label does. With a tuning it is the same. Before an answer is used: the result is 0,
- * the reason is ALTULISCIA_THRESHOLD, rho is finite, and under nu so is r, which isn't 0.
+ * class), else, NaN too, negative. altuliscia_decide does this sum, altuliscia_decide_rows many of them. altuliscia_c and
+ * altuliscia_nu answer weights that are signed by label. Those of altuliscia_general and altuliscia_retired aren't, and nothing in the
+ * answer tells: there each term is to be multiplied by 1 where the label is 1 and by -1 where it is 0, which
+ * altuliscia_decide_by_label and altuliscia_decide_rows_by_label do; altuliscia_sign makes signed ones of them. With a tuning it is the
+ * same. Before an answer is used: the result is 0, the reason is ALTULISCIA_THRESHOLD, rho is finite, and under nu so is r, which isn't
+ * 0 (altuliscia_usable). Before it is released it has a support vector, too (altuliscia_releasable).
  *
  * Lists on bytes. A slice is a pointer and its length in bytes. A list of n doubles is 8n bytes: each double stands in eight bytes,
  * lowest first, which is how both processors keep a double in memory. The matrix is 8*n*n bytes: the double of column c, row r stands
@@ -451,10 +453,16 @@ static inline uint64_t altuliscia_vote(uint64_t languages, const double *coeffic
                             ALTULISCIA_WRITTEN(election, 3u));
 }
 
-/* Whether an answer is to be used: accepted, ended by the threshold, rho finite, and under the nu rule r finite and not 0. */
+/* Whether an answer can be used: accepted, ended by the threshold, rho finite, and under the nu rule r finite and not 0. Its support
+ * isn't asked, since it wasn't from 1.0.0 on: altuliscia_releasable does. */
 static inline int altuliscia_usable(const altuliscia_result *result) {
     return result->refusal == ALTULISCIA_ACCEPTED && result->reason == ALTULISCIA_THRESHOLD && result->rho - result->rho == 0 &&
            (!result->has_r || (result->r - result->r == 0 && result->r != 0));
+}
+
+/* Whether nothing speaks against the release of an answer: it can be used, and has a support vector. */
+static inline int altuliscia_releasable(const altuliscia_result *result) {
+    return altuliscia_usable(result) && result->support != 0;
 }
 
 /* The decision of weights that are signed by label, or of one class: the sum over the samples, in their order, of weight times kernel
@@ -482,6 +490,30 @@ static inline double altuliscia_decide_by_label(size_t n, const double *home, co
             sum += term;
         }
     return sum - rho;
+}
+
+/* Both of many captions: n kernel values for each, one caption after another in `values`, and a decision for each. */
+static inline void altuliscia_decide_rows(size_t n, const double *home, double rho, size_t captions, const double *values,
+                                          double *decisions) {
+    size_t k;
+    for (k = 0; k < captions; k++)
+        decisions[k] = altuliscia_decide(n, home, rho, values + k * n);
+}
+
+static inline void altuliscia_decide_rows_by_label(size_t n, const double *home, const uint8_t *labels, double rho, size_t captions,
+                                                   const double *values, double *decisions) {
+    size_t k;
+    for (k = 0; k < captions; k++)
+        decisions[k] = altuliscia_decide_by_label(n, home, labels, rho, values + k * n);
+}
+
+/* Coefficients out of weights that aren't signed, those of general and retired, for what takes signed ones: altuliscia_decide,
+ * altuliscia_decide_rows, altuliscia_vote. Negated are those of negative samples; a 0 stays as it is. `home` isn't changed, so that it
+ * can't be signed twice: lend another list for the coefficients. */
+static inline void altuliscia_sign(size_t n, const double *home, const uint8_t *labels, double *coefficients) {
+    size_t s;
+    for (s = 0; s < n; s++)
+        coefficients[s] = labels[s] || home[s] == 0 ? home[s] : -home[s];
 }
 
 #undef ALTULISCIA_CAST

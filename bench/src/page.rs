@@ -360,6 +360,9 @@ pub fn text(rows: &[Row], b: &Beside) -> String {
         std::env::consts::ARCH.replace('_', "-"),
         b.machine
     );
+    if cfg!(target_arch = "x86_64") {
+        text += PICTURE;
+    }
     text += &goals(rows);
     text += &format!(
         "In the same run the answers were compared: of {} rows {} are equal bit for bit (both readings, rho, obj, iterations; home as the\n\
@@ -380,6 +383,9 @@ pub fn text(rows: &[Row], b: &Beside) -> String {
     text += &memory(b.touched);
     text.trim_end().to_string() + "\n"
 }
+
+/// `bench/run` has it made of this page.
+const PICTURE: &str = "![For each row with shrinking off two bars, the time of the library and that of LIBSVM, each by the Rust's.](benchmarks.svg)\n\n";
 
 const GROWS: &str = "\
 ## How time grows

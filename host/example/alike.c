@@ -1,6 +1,7 @@
 /* Makes each drawn call twice, by altuliscia_train_X and by altuliscia_X, and compares what is returned and every byte that is written;
  * so with a drawn tuning, with drawn steps, by altuliscia_find_pair and altuliscia_pair, and with drawn panels, by altuliscia_vote and
- * altuliscia_votes. Then what only the former can be handed. C99 and C++98. The exit status is 1 where anything differs. */
+ * altuliscia_votes. Then what only the former can be handed, and decisions beside the votes. C99 and C++98. The exit status is 1 where
+ * anything differs. */
 #include "altuliscia.h"
 
 #include <stdio.h>
@@ -361,6 +362,89 @@ static void odd(void) {
     expect("signed by label", altuliscia_decide_by_label(2, both, y, 0.125, row) == 0.125);
 }
 
+/* The answers that are to be released. */
+static void released(void) {
+    const double m[] = {1, 0, 0, 1}, limit = ALTULISCIA_SUPPORT_LIMIT, first[] = {1, 2}, second[] = {1, 1};
+    const uint8_t y[] = {1, 0}, ones[] = {1, 1};
+    double home[2];
+    altuliscia_result result;
+    altuliscia_train_c(2, m, y, 1, 1, 0.001, 0, 10, NULL, home, &result);
+    expect("releasable", altuliscia_releasable(&result));
+    result.has_r = 1;
+    expect("not where r is 0", !altuliscia_releasable(&result));
+    result.r = 0.5;
+    expect("where it isn't", altuliscia_releasable(&result));
+    altuliscia_train_c(2, m, y, 1, 1, 0.001, 0, 1, NULL, home, &result);
+    expect("not where the budget ran out", result.refusal == 0 && !altuliscia_releasable(&result));
+    altuliscia_train_c(2, m, ones, 1, 1, 0.001, 0, 10, NULL, home, &result);
+    expect("not with an infinite rho", result.refusal == 0 && !altuliscia_releasable(&result));
+    altuliscia_train_c(2, m, y, limit, limit, 0.001, 0, 10, NULL, home, &result);
+    expect("not without support", altuliscia_usable(&result) && !altuliscia_releasable(&result));
+    altuliscia_train_c(2, m, y, 1, 1, -1, 0, 10, NULL, home, &result);
+    expect("not where refused", !altuliscia_releasable(&result));
+    altuliscia_train_general(2, m, y, first, second, second, 0, 0.001, 0, 0, NULL, home, &result);
+    expect("not where the budget is refused", result.refusal == 10 && !altuliscia_releasable(&result));
+}
+
+/* Many captions, with signed weights and without a sign, and what becomes of a zero and of a NaN. */
+static void many(void) {
+    const double none = matrix[0] - matrix[0], nan = none / none, big = 1e16;
+    const double home[] = {2, 3, 0}, order[] = {big, 1, big}, plain[] = {nan, 0, -0.0};
+    const double values[] = {0.5, 0.25, nan, 1, 1, 1, -1, 0, 7}, row[] = {1, 1, 1};
+    const uint8_t y[] = {1, 0, 0}, swapped[] = {0, 1, 1};
+    double signed_ones[3], again[3], a[4] = {7, 7, 7, 7}, b[4] = {7, 7, 7, 7};
+    altuliscia_sign(3, home, y, signed_ones);
+    altuliscia_sign(3, home, y, again);
+    expect("signed", signed_ones[0] == 2 && signed_ones[1] == -3 && altuliscia_bits(signed_ones[2]) == 0);
+    expect("and so once more", memcmp(signed_ones, again, sizeof again) == 0 && home[1] == 3);
+    altuliscia_decide_rows(3, signed_ones, 0.125, 3, values, a);
+    altuliscia_decide_rows_by_label(3, home, y, 0.125, 3, values, b);
+    expect("three decisions", a[0] == 0.125 && a[1] == -1.125 && a[2] == -2.125 && a[3] == 7);
+    expect("by label they are the same", memcmp(a, b, sizeof a) == 0);
+    altuliscia_decide_rows(3, signed_ones, 0, 0, NULL, a);
+    altuliscia_decide_rows_by_label(3, home, y, 0, 0, NULL, b);
+    expect("no caption", a[0] == 0.125 && b[0] == 0.125);
+    altuliscia_decide_rows_by_label(3, home, swapped, -0.125, 3, values, b);
+    expect("the other way round", b[0] == -0.125 && b[1] == 1.125 && b[2] == 2.125);
+    /* Three times a third is 1, rounded by itself; merged with the sum it is below, and so the decision isn't 0. */
+    const double third[] = {1 + none, 1 / (3 + none)}, thrice[] = {none - 1, 3 + none}, unsigned_ones[] = {1 + none, 3 + none};
+    expect("unmerged", altuliscia_decide(2, thrice, 0, third) == 0 && altuliscia_decide_by_label(2, unsigned_ones, swapped, 0, third) == 0);
+    altuliscia_sign(3, order, swapped, again);
+    expect("in sample order", altuliscia_decide(3, again, 0, row) == 0 && again[0] == -big);
+    altuliscia_sign(3, plain, y, again);
+    expect("a NaN stays one, a zero as it is", again[0] != again[0] && altuliscia_bits(again[1]) == 0 && altuliscia_bits(again[2]) >> 63);
+}
+
+/* Drawn weights and values: the decision's sign is the vote of altuliscia_votes, and the ways to sign are one. Of NaN and infinities the
+ * votes differ where they stand beside a 0, so there are none. */
+static void decided(void) {
+    static double home[40], coefficients[40], values[40];
+    int positive = 0, zero = 0, run;
+    for (run = 0; run < RUNS; run++) {
+        const uint64_t count = 1 + below(40);
+        const double rho = ((double)below(65) - 32) / 8;
+        uint64_t votes[2];
+        altuliscia_election e;
+        size_t s, n = (size_t)count;
+        for (s = 0; s < n; s++) {
+            home[s] = below(3) ? (double)below(1000) / 7 : 0;
+            values[s] = ((double)below(2001) - 1000) / (below(2) ? 3 : 1024);
+            labels[s] = (uint8_t)below(2);
+        }
+        if (run % 4 == 0)
+            for (s = 0; s < n; s++)
+                home[s] = (double)below(2), values[s] = ((double)below(9) - 4) / 4;
+        altuliscia_sign(n, home, labels, coefficients);
+        const double found = altuliscia_decide(n, coefficients, rho, values);
+        expect("signed or by label", altuliscia_bits(found) == altuliscia_bits(altuliscia_decide_by_label(n, home, labels, rho, values)));
+        expect("no refusal", altuliscia_vote(2, coefficients, values, &count, &rho, votes, &e) == 0);
+        expect("the vote is the sign's", (found >= 0) == (e.winner == 1));
+        positive += found > 0;
+        zero += found == 0;
+    }
+    expect("decisions of each kind", positive > RUNS / 4 && positive < 3 * RUNS / 4 && zero > 5);
+}
+
 /* The same with a tuning. */
 static void odd_tuned(void) {
     const double m[] = {1, 0, 0, 1}, d[] = {1, 1};
@@ -419,6 +503,9 @@ int main(void) {
     differ |= steps();
     differ |= panels();
     odd();
+    released();
+    many();
+    decided();
     odd_tuned();
     odd_votes();
     return differ || failed;

@@ -79,8 +79,9 @@ int main(void) {
     printf("support     %" PRIu64 "\n", number_at(answer, ALTULISCIA_AT_SUPPORT));
     for (size_t k = 0; k < N; k++)
         printf("sample %zu    %g\n", k, home[k]);
-    /* Something new with the kernel values 0.75, 0.25. */
-    printf("decision    %g\n", home[0] * 0.75 + home[1] * 0.25 - double_at(answer, ALTULISCIA_AT_RHO));
+    /* Two new captions, with the kernel values 0.75, 0.25 and 0, 1. */
+    printf("decisions   %g %g\n", home[0] * 0.75 + home[1] * 0.25 - double_at(answer, ALTULISCIA_AT_RHO),
+           home[0] * 0 + home[1] * 1 - double_at(answer, ALTULISCIA_AT_RHO));
 
     if (train_retired())
         return 1;

@@ -38,12 +38,13 @@ int main(void) {
 
     altuliscia_train_c(N, matrix, labels, 1.0 /* cpos */, 1.0 /* cneg */, 0.001 /* eps */, 0 /* shrinking */,
                        1000 /* budget */, NULL /* crate_reading */, home, &result);
-    if (refused(&result) || !altuliscia_usable(&result))
+    if (refused(&result) || !altuliscia_releasable(&result))
         return 1;
 
-    /* Something new, by its kernel values with the two samples. */
-    const double values[N] = {0.75, 0.25};
-    double decision = altuliscia_decide(N, home, result.rho, values);
+    /* Two new captions, by their kernel values with the two samples. */
+    const double values[2 * N] = {0.75, 0.25, 0, 1};
+    double decisions[2];
+    altuliscia_decide_rows(N, home, result.rho, 2, values, decisions);
 
     printf("rho         %g\n", result.rho);
     printf("obj         %g\n", result.obj);
@@ -52,7 +53,7 @@ int main(void) {
     printf("support     %lu\n", (unsigned long)result.support);
     for (int k = 0; k < N; k++)
         printf("sample %d    %g\n", k, home[k]);
-    printf("decision    %g\n", decision);
+    printf("decisions   %g %g\n", decisions[0], decisions[1]);
 
     if (train_retired())
         return 1;

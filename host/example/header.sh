@@ -12,7 +12,7 @@ made=$(mktemp -d)
 trap 'rm -rf "$made"' EXIT
 strict='-Wall -Wextra -Werror -pedantic -Wconversion -Wshadow -Iinclude'
 bits=$(echo -DB{1..26}=w)
-lists=$(echo -DL{1..13}=d)
+lists=$(echo -DL{1..21}=d)
 tunings=$(echo -DT{1..5}=t -DR{1..4}=r -DN{1..2}=n -DE1=e)
 tried=0
 
@@ -48,7 +48,7 @@ compiled() {
         for wrong in x f; do must_not 'invalid operands' $compile/wrong.c ${bits/$place=w/$place=$wrong} $lists $tunings; done
     done
     must $compile/wrong.c ${bits/B3=w/B3=x} $lists $tunings -DALTULISCIA_UNGUARDED -Wno-conversion -Wno-float-conversion
-    for place in L{1..13}; do
+    for place in L{1..21}; do
         for wrong in m g; do
             must_not 'incompatible|cannot convert|no matching' $compile/wrong.c $bits ${lists/$place=d/$place=$wrong} $tunings
         done

@@ -20,7 +20,7 @@ static int train(void) {
         altuliscia_result result;
         altuliscia_train_c(2, matrix, labels, 1.0 /* cpos */, 1.0 /* cneg */, 0.001 /* eps */, 0 /* shrinking */, 1000 /* budget */,
                            NULL /* crate_reading */, coefficients + 2 * pair, &result);
-        if (!altuliscia_usable(&result))
+        if (!altuliscia_releasable(&result))
             return 1;
         rhos[pair] = result.rho;
     }

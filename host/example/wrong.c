@@ -1,4 +1,4 @@
-/* Places for what can be handed over wrongly. With w, the bits, in B1 to B26, d, a list of doubles, in L1 to L13, t, a tuning, in T1 to T5,
+/* Places for what can be handed over wrongly. With w, the bits, in B1 to B26, d, a list of doubles, in L1 to L21, t, a tuning, in T1 to T5,
  * r, the longer answer, in R1 to R4, n, a list of numbers, in N1 and N2 and e, the answer of the votes, in E1 this compiles; with a double or
  * a float in one B, a list of bytes or floats in one L, a list of doubles in one T or N, or the shorter answer of a training, s, in one R or
  * E it must not. header.sh tries each. */
@@ -7,6 +7,7 @@
 uint64_t places(const uint8_t *m, const double *d, const float *g, uint64_t w, double x, float f, uint8_t *a, double *home);
 uint64_t tuned_places(const uint8_t *m, const double *d, const float *g, uint64_t w, double x, float f, uint8_t *a, double *home);
 uint64_t vote_places(const uint8_t *m, double *d, const float *g, uint64_t *n);
+void decide_places(const uint8_t *m, double *d, float *g);
 
 uint64_t places(const uint8_t *m, const double *d, const float *g, uint64_t w, double x, float f, uint8_t *a, double *home) {
     uint64_t sum = g ? altuliscia_bits(x + f) : 0;
@@ -48,4 +49,11 @@ uint64_t vote_places(const uint8_t *m, double *d, const float *g, uint64_t *n) {
     uint64_t sum = m && d && g && n && s ? 1 : 0;
     sum += altuliscia_vote(2, L11, L12, N1, L13, N2, E1);
     return sum + e->refusal;
+}
+
+void decide_places(const uint8_t *m, double *d, float *g) {
+    d[0] = m && g ? 1 : 0;
+    altuliscia_decide_rows(2, L14, 0, 1, L15, L16);
+    altuliscia_decide_rows_by_label(2, L17, m, 0, 1, L18, L19);
+    altuliscia_sign(2, L20, m, L21);
 }

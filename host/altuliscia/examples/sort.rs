@@ -1,5 +1,5 @@
 //! Sorts captions of three languages: a training for each two of them, and their votes. The kernel counts the letters that two captions share.
-use altuliscia::{fit_c, pairs, votes, Options, Panel, Problem};
+use altuliscia::{Corpus, Options, Sorter, Tuned, Way};
 use std::error::Error;
 
 const LANGUAGES: [&str; 3] = ["German", "Italian", "Finnish"];
@@ -39,62 +39,28 @@ fn shared(a: &str, b: &str) -> f64 {
         .sum()
 }
 
-/// The training captions of two languages.
-fn of_pair((first, second): (usize, usize)) -> Vec<(bool, &'static str)> {
-    let own = TRAIN.iter().filter(|(l, _)| [first, second].contains(l));
-    own.map(|(l, caption)| (*l == first, *caption)).collect()
-}
-
 fn main() -> Result<(), Box<dyn Error>> {
+    let matrix: Vec<f64> = TRAIN
+        .iter()
+        .flat_map(|(_, a)| TRAIN.iter().map(move |(_, b)| shared(a, b)))
+        .collect();
+    let labels = TRAIN.map(|(language, _)| language);
     let options = Options {
         eps: 0.001,
         ..Options::default()
     };
-    let (mut coefficients, mut counts, mut rhos) = (Vec::new(), Vec::new(), Vec::new());
-    for pair in pairs(3) {
-        let own = of_pair(pair);
-        let matrix: Vec<f64> = own
-            .iter()
-            .flat_map(|(_, a)| own.iter().map(move |(_, b)| shared(a, b)))
-            .collect();
-        let labels: Vec<bool> = own.iter().map(|(first, _)| *first).collect();
-        let problem = Problem {
-            matrix: &matrix,
-            labels: &labels,
-        };
-        let answer = fit_c(&problem, 0.5, 0.5, &options)?;
-        counts.push(answer.home.len() as u64);
-        coefficients.extend(answer.home);
-        rhos.push(answer.rho);
+    let corpus = Corpus::new(&matrix, &labels);
+    let sorter = Sorter::train(&corpus, Way::C(0.5), &Tuned::from(options))?;
+    for (pair, why) in sorter.unfit() {
+        println!("{} and {}: {}", pair.first, pair.second, why);
     }
 
     for caption in NEW {
-        let values: Vec<f64> = pairs(3)
-            .flat_map(of_pair)
-            .map(|(_, trained)| shared(caption, trained))
-            .collect();
-        let panel = Panel {
-            languages: 3,
-            coefficients: &coefficients,
-            values: &values,
-            coefficient_counts: &counts,
-            value_counts: &counts,
-            rhos: &rhos,
-        };
-        let found = votes(&panel)?;
-        let tie = if found.ties().count() > 1 {
-            ", a tie"
-        } else {
-            ""
-        };
+        let found = sorter.sort(&TRAIN.map(|(_, trained)| shared(caption, trained)))?;
         let language = LANGUAGES[found.winner() - 1];
-        println!(
-            "{:<13} {:<8} {:?}{}",
-            caption,
-            language,
-            found.counts(),
-            tie
-        );
+        let tie = if found.tied() { ", a tie" } else { "" };
+        let votes = found.votes.counts();
+        println!("{:<13} {:<8} {:?}{}", caption, language, votes, tie);
     }
     Ok(())
 }

@@ -154,7 +154,7 @@ impl Training<'_> {
 
     fn unequal(&self) -> Option<Caution> {
         // A NaN is the fit's to refuse.
-        let differ = |a: &f64, b: &f64| a < b || a > b;
+        let differ = |a: &f64, b: &f64| (a - b).abs() > 0.0;
         let told = match self {
             Training::C { cpos, cneg, .. } | Training::CRetired { cpos, cneg, .. } => {
                 differ(cpos, cneg)

@@ -1,33 +1,34 @@
 //! A support vector machine trainer (SMO on a precomputed kernel: C, nu, one class) that is proved to meet its contract, for Rust: the
 //! functions of `include/altuliscia.h` with types. This crate itself is tested, not proved.
 //!
-//! A problem is a kernel matrix with labels; a fit trains it and hands back an [`Answer`] or a [`Refusal`]. Nothing here panics,
-//! whatever is handed in. Calls keep no state, so they may be made from several threads at once.
+//! A problem is a kernel matrix with labels. A [`Training`] says what is made of it, and hands back a [`Trained`] or a [`Refusal`]. Nothing
+//! here panics, whatever is handed in. Calls keep no state, so they may be made from several threads at once.
 //!
 //! ```
-//! use altuliscia::{fit_c, ExitReason, Options, Problem};
+//! use altuliscia::{Problem, Training, Tuned};
 //!
 //! let problem = Problem { matrix: &[1.0, 0.0, 0.0, 1.0], labels: &[true, false] };
-//! let answer = fit_c(&problem, 1.0, 1.0, &Options::default())?;
-//! assert_eq!(answer.home, [1.0, -1.0]);
-//! assert_eq!((answer.rho, answer.obj), (0.0, -1.0));
-//! assert_eq!((answer.iterations, answer.reason), (1, ExitReason::Threshold));
+//! let training = Training::C { problem, cpos: 1.0, cneg: 1.0 };
+//! assert_eq!(training.cautions(), []); // what to know before it is trained
+//! let trained = training.train(&Tuned::default())?;
+//! assert_eq!(trained.unfit(), None); // why it is not to be released
+//! assert_eq!((trained.coefficients(), trained.rho()), (&[1.0, -1.0][..], 0.0));
 //!
 //! // Something new, by its kernel values with the two samples.
-//! let values = [0.75, 0.25];
-//! let terms = answer.home.iter().zip(values).map(|(weight, value)| weight * value);
-//! let decision = terms.sum::<f64>() - answer.rho;
+//! let decision = trained.decision(&[0.75, 0.25])?;
 //! assert_eq!((decision, decision >= 0.0), (0.5, true));
-//! # Ok::<(), altuliscia::Refusal>(())
+//! # Ok::<(), Box<dyn std::error::Error>>(())
 //! ```
 //!
 //! # How to use the answer
 //!
-//! The decision on something new is the sum over the samples of `home[s]` times its kernel value with sample s, less `rho`, as above.
-//! From 0 on it is positive ([`fit_one_class`]: of the class), else, NaN too, negative. The weights of [`fit_c`], [`fit_c_retired`] and
-//! [`fit_nu`] are signed by label. Those of [`fit_general`] and [`fit_retired`] aren't: there the terms of negative samples are taken
-//! away (an example is at [`fit_general`]). The kernel value of a retired sample has no say: its weight is 0, so hand in 0 or leave it
-//! out. Before an answer is used, see that its reason is [`ExitReason::Threshold`] and rho finite, and under nu r finite and not 0.
+//! The [`decision`] on something new is the sum over the samples of coefficient times kernel value, less rho. From 0 on it is positive
+//! ([`Training::OneClass`]: of the class), else, NaN too, negative. The kernel value of a retired sample has no say. What is
+//! [`unfit`](Trained::unfit) is not to be released: its budget ran out, rho isn't finite, under nu r is 0 or not finite, or it has no
+//! support vector. [`Training::cautions`] tells beforehand what is accepted and mostly a mistake.
+//!
+//! [`fit_c`] and its fellows answer the same as an [`Answer`], without the coefficients: its weights, `home`, are signed by label under
+//! [`fit_c`], [`fit_c_retired`] and [`fit_nu`], but not under [`fit_general`] and [`fit_retired`].
 //!
 //! # Refusals
 //!
@@ -72,36 +73,8 @@
 //!
 //! # Several languages
 //!
-//! For two to twelve languages there is a training for each two of them, and [`votes`] counts which language each of these trainings says a
-//! caption is in. Here one caption of each of three languages is trained on:
-//!
-//! ```
-//! use altuliscia::{fit_c, pairs, votes, Options, Panel, Problem};
-//!
-//! let (mut coefficients, mut rhos) = (Vec::new(), Vec::new());
-//! for _ in pairs(3) {
-//!     let problem = Problem { matrix: &[1.0, 0.0, 0.0, 1.0], labels: &[true, false] };
-//!     let answer = fit_c(&problem, 1.0, 1.0, &Options::default())?;
-//!     coefficients.extend(answer.home);
-//!     rhos.push(answer.rho);
-//! }
-//!
-//! // Something new, by its kernel values with the three captions; a pair has those of its two.
-//! let caption = [0.25, 0.75, 0.5];
-//! let values: Vec<f64> = pairs(3).flat_map(|(first, second)| [caption[first - 1], caption[second - 1]]).collect();
-//! let counts = [2; 3];
-//! let panel = Panel {
-//!     languages: 3,
-//!     coefficients: &coefficients,
-//!     values: &values,
-//!     coefficient_counts: &counts,
-//!     value_counts: &counts,
-//!     rhos: &rhos,
-//! };
-//! let found = votes(&panel)?;
-//! assert_eq!((found.winner(), found.counts()), (2, &[0, 2, 1][..]));
-//! # Ok::<(), Box<dyn std::error::Error>>(())
-//! ```
+//! For two to twelve languages there is a training for each two of them. A [`Sorter`] trains them all, and tells which language a caption is
+//! in by their [`votes`], which the library counts.
 #![deny(missing_docs, unsafe_code)]
 
 mod call;
@@ -110,6 +83,7 @@ mod functions;
 mod pair;
 mod refusal;
 mod replay;
+mod sorter;
 mod trail;
 mod trained;
 mod training;
@@ -118,6 +92,7 @@ mod votes;
 pub use cautions::Caution;
 pub use pair::{find_pair, Before};
 pub use refusal::Refusal;
+pub use sorter::{Corpus, NoSorter, Pair, Sorter, Unsorted, Verdict, Way};
 pub use trail::{trail, NoTrail, Step, Trail};
 pub use trained::{decision, Trained, Unfit, WrongLength};
 pub use training::Training;
@@ -194,8 +169,8 @@ impl Default for Options {
     }
 }
 
-/// The options, and what a run may be told beside them. It begins as `Tuned::from(options)`, which tells nothing: later versions may add
-/// fields.
+/// The options, and what a run may be told beside them. It begins as `Tuned::from(options)`, which tells nothing, or `Tuned::default()`, of
+/// the usual options: later versions may add fields.
 #[derive(Clone, Copy, Debug, PartialEq)]
 #[non_exhaustive]
 pub struct Tuned {
@@ -213,6 +188,12 @@ impl From<Options> for Tuned {
             options,
             floor: USUAL_FLOOR,
         }
+    }
+}
+
+impl Default for Tuned {
+    fn default() -> Tuned {
+        Tuned::from(Options::default())
     }
 }
 

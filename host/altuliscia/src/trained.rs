@@ -5,7 +5,7 @@ use std::fmt;
 /// What [`Training::train`] hands back.
 ///
 /// ```
-/// use altuliscia::{General, Options, Problem, Training, Tuned};
+/// use altuliscia::{General, Problem, Training, Tuned};
 ///
 /// let general = General {
 ///     problem: Problem { matrix: &[1.0, 0.0, 0.0, 1.0], labels: &[true, false] },
@@ -14,7 +14,7 @@ use std::fmt;
 ///     linear: &[-1.0, -1.0],
 ///     nu_rule: false,
 /// };
-/// let trained = Training::General(general).train(&Tuned::from(Options::default()))?;
+/// let trained = Training::General(general).train(&Tuned::default())?;
 /// assert_eq!(trained.answer.home, [1.0, 1.0]); // as the general fit answers: without a sign
 /// assert_eq!(trained.coefficients(), [1.0, -1.0]);
 /// assert_eq!((trained.rho(), trained.unfit()), (0.0, None));
@@ -154,6 +154,20 @@ pub struct WrongLength {
     pub wanted: usize,
 }
 
+impl WrongLength {
+    pub(crate) fn judged(values: &[f64], wanted: usize) -> Result<(), WrongLength> {
+        let wrong = WrongLength {
+            caption: 0,
+            values: values.len(),
+            wanted,
+        };
+        match values.len() == wanted {
+            true => Ok(()),
+            false => Err(wrong),
+        }
+    }
+}
+
 impl fmt::Display for WrongLength {
     fn fmt(&self, f: &mut fmt::Formatter<'_>) -> fmt::Result {
         write!(
@@ -178,13 +192,7 @@ impl std::error::Error for WrongLength {}
 /// # Ok::<(), altuliscia::WrongLength>(())
 /// ```
 pub fn decision(coefficients: &[f64], rho: f64, values: &[f64]) -> Result<f64, WrongLength> {
-    if values.len() != coefficients.len() {
-        return Err(WrongLength {
-            caption: 0,
-            values: values.len(),
-            wanted: coefficients.len(),
-        });
-    }
+    WrongLength::judged(values, coefficients.len())?;
     let mut sum = 0.0;
     for (coefficient, value) in coefficients.iter().zip(values) {
         if *coefficient != 0.0 {

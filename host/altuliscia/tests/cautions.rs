@@ -43,23 +43,31 @@ fn nothing_is_told_where_all_is_well() {
     }
 }
 
-#[test]
-fn an_asymmetric_kernel_is_told_by_its_farthest_entry() {
-    let l = lists(3, 5);
-    let mut matrix = l.matrix.clone();
+/// A matrix of five samples, four of whose entries are apart from their mirror images.
+fn apart() -> Vec<f64> {
+    let mut matrix = lists(3, 5).matrix;
     matrix[5] += 1e-9; // column 1, row 0
     matrix[3 * 5 + 2] -= 2.5; // column 3, row 2
     matrix[4] += 0.5; // column 0, row 4
+    matrix[3 * 5 + 4] += 0.25; // column 3, row 4
+    matrix
+}
+
+const LABELS: [bool; 5] = [true, false, false, true, false];
+
+#[test]
+fn an_asymmetric_kernel_is_told_by_its_farthest_entry() {
+    let matrix = apart();
     let problem = Problem {
         matrix: &matrix,
-        labels: &l.labels,
+        labels: &LABELS,
     };
     let expected = Caution::Asymmetric {
         column: 2,
         row: 3,
         entry: matrix[2 * 5 + 3],
         mirrored: matrix[2 * 5 + 3] - 2.5,
-        count: 3,
+        count: 4,
     };
     assert_eq!(c(problem, 1.0, 1.0).cautions(), [expected]);
     let samples = OneClass {
@@ -73,16 +81,31 @@ fn an_asymmetric_kernel_is_told_by_its_farthest_entry() {
     let words = expected.to_string();
     assert!(words.contains("column 2, row 3, counted from 0, is "));
     assert!(
-        words.ends_with("; 3 below the diagonal differ"),
+        words.ends_with("; 4 below the diagonal differ"),
         "{}",
         words
     );
-    // What is given for retired samples has no say.
+    // A zero's sign is no difference.
+    let problem = Problem {
+        matrix: &[1.0, 0.0, -0.0, 1.0],
+        labels: &[true, false],
+    };
+    assert_eq!(c(problem, 1.0, 1.0).cautions(), []);
+}
+
+#[test]
+fn what_is_given_for_retired_samples_is_passed_over() {
+    let matrix = apart();
+    let problem = Problem {
+        matrix: &matrix,
+        labels: &LABELS,
+    };
     let (cpos, cneg) = (1.0, 1.0);
     for (retired, count) in [
-        ([true, false, true, false, false], 0),
-        ([false, false, true, false, false], 2),
-        ([true, false, false, false, false], 1),
+        ([true, false, true, false, true], 0),
+        ([true, false, true, false, false], 1),
+        ([false, false, true, false, false], 3),
+        ([true, false, false, false, false], 2),
     ] {
         let retired = &retired[..];
         #[rustfmt::skip]
@@ -94,12 +117,6 @@ fn an_asymmetric_kernel_is_told_by_its_farthest_entry() {
         };
         assert_eq!(found, count);
     }
-    // A zero's sign is no difference.
-    let problem = Problem {
-        matrix: &[1.0, 0.0, -0.0, 1.0],
-        labels: &[true, false],
-    };
-    assert_eq!(c(problem, 1.0, 1.0).cautions(), []);
 }
 
 /// By svm_check_parameter of LIBSVM: nu*(n1+n2)/2 > min(n1,n2).

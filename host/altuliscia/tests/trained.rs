@@ -65,6 +65,7 @@ fn what_the_other_fits_answer_is_left_as_it_is() {
         assert_eq!(trained.coefficients(), trained.answer.home);
         assert!(trained.releasable());
     }
+    assert_eq!(Tuned::default(), Tuned::from(Options::default()));
     let none = Training::Nu { problem, nu: 0.0 };
     assert_eq!(none.train(&tuned()), Err(Refusal::Nu));
 }

@@ -1,10 +1,10 @@
 //! How captions of several languages were sorted, as a grid of squares: a row for each language, a column for each that they went to.
 use crate::outcomes::{cell, Outcomes};
 use crate::percent;
-use crate::picture::{escaped, rect, text, BOLD};
+use crate::svg::{escaped, key, page, rect, text, upright, GREY, INK, SMALL};
 
 /// Where the grid begins, and how wide a square is.
-const CORNER: (f64, f64) = (110.0, 96.0);
+const CORNER: (f64, f64) = (158.0, 118.0);
 const SQUARE: f64 = 44.0;
 
 /// The colours of what is sorted rightly and of what isn't, at their darkest.
@@ -24,29 +24,35 @@ pub fn picture(found: &Outcomes) -> String {
         found.ties().all
     );
     let below = format!(
-        "{} captions of each language to train on. A row is a language, a column what its {} other captions are sorted to.",
+        "{} captions of each language to train on, {} others of each to sort.",
         found.of_each,
         found.held_of_each()
     );
     let side = SQUARE * languages as f64;
     let (width, height) = (CORNER.0 + side + 90.0, CORNER.1 + side + 44.0);
-    let mut lines = vec![
-        format!(
-            r#"<svg xmlns="http://www.w3.org/2000/svg" viewBox="0 0 {0:.0} {1:.0}" width="{0:.0}" height="{1:.0}" role="img" font-family="sans-serif" font-size="13">"#,
-            width, height
-        ),
-        format!("<title>{}</title>", title),
-        rect(0.0, 0.0, width, height, "#ffffff"),
-        text(20.0, 30.0, "start", BOLD, &title),
+    let middle = side / 2.0;
+    let mut parts = vec![
         text(20.0, 54.0, "start", SMALL, &below),
+        text(
+            CORNER.0 + middle,
+            CORNER.1 - 32.0,
+            "middle",
+            GREY,
+            "sorted to",
+        ),
+        upright(24.0, CORNER.1 + middle, "the caption\u{2019}s own language"),
+        text(
+            CORNER.0 + side + 12.0,
+            CORNER.1 - 8.0,
+            "start",
+            GREY,
+            "rightly",
+        ),
     ];
-    lines.extend(grid(found));
-    lines.extend(legend(CORNER.1 + side + 26.0));
-    lines.push("</svg>".to_string());
-    lines.join("\n") + "\n"
+    parts.extend(grid(found));
+    parts.extend(legend(CORNER.1 + side + 26.0));
+    page(width, height, &title, &parts)
 }
-
-const SMALL: &str = r#"#555555" font-size="11"#;
 
 fn grid(found: &Outcomes) -> Vec<String> {
     let grid = found.grid();
@@ -58,11 +64,11 @@ fn grid(found: &Outcomes) -> Vec<String> {
     for (row, counts) in grid.iter().enumerate() {
         let y = at(row, CORNER.1);
         let line = y + SQUARE / 2.0 + 4.5;
-        let name = escaped(found.name(row + 1));
         let code = escaped(&found.codes[row]);
+        let name = format!("{} ({})", escaped(found.name(row + 1)), code);
         let above = at(row, CORNER.0) + SQUARE / 2.0;
-        lines.push(text(above, CORNER.1 - 8.0, "middle", "#111111", &code));
-        lines.push(text(CORNER.0 - 10.0, line, "end", "#111111", &name));
+        lines.push(text(above, CORNER.1 - 8.0, "middle", INK, &code));
+        lines.push(text(CORNER.0 - 10.0, line, "end", INK, &name));
         for (column, count) in counts.iter().enumerate() {
             let x = at(column, CORNER.0);
             let (fill, dark) = if row == column {
@@ -72,7 +78,7 @@ fn grid(found: &Outcomes) -> Vec<String> {
             };
             let inner = SQUARE - 2.0;
             lines.push(rect(x + 1.0, y + 1.0, inner, inner, &fill));
-            let ink = if dark { "#ffffff" } else { "#111111" };
+            let ink = if dark { "#ffffff" } else { INK };
             let number = cell(*count, "");
             if !number.is_empty() {
                 lines.push(text(x + SQUARE / 2.0, line, "middle", ink, &number));
@@ -80,7 +86,7 @@ fn grid(found: &Outcomes) -> Vec<String> {
         }
         let share = percent(counts[row], found.held_of_each());
         let beside = at(found.codes.len(), CORNER.0) + 12.0;
-        lines.push(text(beside, line, "start", "#111111", &share));
+        lines.push(text(beside, line, "start", INK, &share));
     }
     lines
 }
@@ -98,14 +104,15 @@ fn shade(colour: [f64; 3], count: usize, most: usize) -> (String, bool) {
 }
 
 fn legend(y: f64) -> Vec<String> {
-    let one = |x: f64, colour: [f64; 3], words: &str| {
-        [
-            rect(x, y - 11.0, 12.0, 12.0, &shade(colour, 1, 1).0),
-            text(x + 18.0, y, "start", "#111111", words),
-        ]
-    };
-    let mut lines = one(CORNER.0, RIGHTLY, "sorted rightly").to_vec();
-    lines.extend(one(CORNER.0 + 140.0, WRONGLY, "taken for another language"));
+    let darkest = |colour| shade(colour, 1, 1).0;
+    let mut lines = key(CORNER.0, y, &darkest(RIGHTLY), "sorted rightly").to_vec();
+    let wrongly = darkest(WRONGLY);
+    lines.extend(key(
+        CORNER.0 + 140.0,
+        y,
+        &wrongly,
+        "taken for another language",
+    ));
     lines
 }
 
@@ -127,6 +134,9 @@ mod tests {
         assert_eq!(drawn.matches(&shade(RIGHTLY, 1, 2).0).count(), 1);
         assert_eq!(drawn.matches(&shade(WRONGLY, 1, 1).0).count(), 4);
         assert!(drawn.contains(">&lt;b</text>") && !drawn.contains("<b<"));
+        for axis in ["sorted to", "the caption\u{2019}s own language", "rightly"] {
+            assert!(drawn.contains(&format!(">{}</text>", axis)), "{}", axis);
+        }
         assert!(drawn
             .contains(">Which of 3 languages? 3 of 6 captions sorted rightly (50.0 %), 2 ties<"));
     }

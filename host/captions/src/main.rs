@@ -1,9 +1,11 @@
 //! Trains on captions and says how the held-out ones are sorted. HELP has the commands.
+mod bars;
 mod confusions;
 mod languages;
 mod outcomes;
 mod picture;
 mod retired;
+mod svg;
 mod table;
 
 use altuliscia::{Options, Refusal};
@@ -16,9 +18,12 @@ use std::process::ExitCode;
 
 const HELP: &str = "captions pair FILE          trains the captions of one file and says how many held-out ones are sorted rightly
 captions table FOLDER       the same for every file of a folder, as the tables of docs/CAPTIONS.md
-captions picture FILE       one training (C 10, eps 1e-7, shrinking on) as an SVG picture: the weights of both lists
+captions picture FILE [TEXTS]
+                            one training (C 10, eps 1e-7, shrinking on) as an SVG picture: the weights of both lists; TEXTS has the
+                            training captions, a line each
 captions retired FILE SERIAL ..
                             trains with all captions, then with those of these serial numbers retired, and compares
+captions bars PAGE          the times of docs/BENCHMARKS-x86-64.md as an SVG picture
 captions libsvm FILE NAME   writes them as NAME.train and NAME.held, in LIBSVM's format for a precomputed kernel
 
 Of several languages:
@@ -40,7 +45,11 @@ fn main() -> ExitCode {
     let told = match words[..] {
         ["pair", path] => read(path).and_then(|figures| pair(&figures)),
         ["table", folder] => table::table(folder),
-        ["picture", path] => read(path).and_then(|figures| picture::picture(&figures)),
+        ["picture", path] => read(path).and_then(|figures| picture::picture(&figures, None)),
+        ["picture", path, texts] => with_texts(path, texts),
+        ["bars", path] => {
+            text(path).and_then(|page| bars::picture(&page).map_err(|e| format!("{}: {}", path, e)))
+        }
         ["retired", path, ref serials @ ..] if !serials.is_empty() => {
             read(path).and_then(|figures| retired::retired(&figures, serials))
         }
@@ -77,6 +86,11 @@ fn text(path: &str) -> Result<String, String> {
 
 fn read(path: &str) -> Result<Figures, String> {
     Figures::read(&text(path)?).map_err(|e| format!("{}: {}", path, e))
+}
+
+fn with_texts(path: &str, texts: &str) -> Result<String, String> {
+    let (figures, all) = (read(path)?, text(texts)?);
+    picture::picture(&figures, Some(&all)).map_err(|e| format!("{}: {}", texts, e))
 }
 
 fn several(path: &str) -> Result<Several, String> {

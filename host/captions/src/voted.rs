@@ -1,41 +1,18 @@
 //! Trains every two of several languages, and has the library vote on the held-out captions.
 use crate::Several;
-use altuliscia::{fit_c, pairs, votes, Options, Panel, Problem, Votes};
+use altuliscia::{Corpus, Options, Sorter, Tuned, Votes, Way};
 
 /// The votes on each held-out caption, by trainings on all training captions with one ceiling. The error is a refusal, told.
 pub fn voted(s: &Several, c: f64, options: &Options) -> Result<Vec<Votes>, String> {
-    let languages = s.languages.len();
-    let (mut places, mut counts) = (Vec::new(), Vec::new());
-    let (mut coefficients, mut rhos) = (Vec::new(), Vec::new());
-    for (first, second) in pairs(languages) {
-        let both = [first, second];
-        let own = (0..s.train.len()).filter(|k| both.contains(&s.train[*k].language));
-        let own: Vec<usize> = own.collect();
-        let labels: Vec<bool> = own.iter().map(|k| s.train[*k].language == first).collect();
-        let problem = Problem {
-            matrix: &s.matrix(&own),
-            labels: &labels,
-        };
-        let answer = fit_c(&problem, c, c, options).map_err(|refusal| refusal.to_string())?;
-        counts.push(own.len() as u64);
-        places.extend(own);
-        coefficients.extend(answer.home);
-        rhos.push(answer.rho);
-    }
-    let one = |row: Vec<f64>| {
-        let values: Vec<f64> = places.iter().map(|k| row[*k]).collect();
-        let panel = Panel {
-            languages,
-            coefficients: &coefficients,
-            values: &values,
-            coefficient_counts: &counts,
-            value_counts: &counts,
-            rhos: &rhos,
-        };
-        votes(&panel).map_err(|why| why.to_string())
-    };
-    let held = s.held.iter();
-    held.map(|text| one(s.values(text, s.of_each()))).collect()
+    let all: Vec<usize> = (0..s.train.len()).collect();
+    let labels: Vec<usize> = s.train.iter().map(|text| text.language).collect();
+    let matrix = s.matrix(&all);
+    let corpus = Corpus::new(&matrix, &labels);
+    let sorter = Sorter::train(&corpus, Way::C(c), &Tuned::from(*options));
+    let sorter = sorter.map_err(|why| why.to_string())?;
+    let rows = s.held.iter().map(|text| s.values(text, s.of_each()));
+    let found = sorter.sort_all(rows).map_err(|why| why.to_string())?;
+    Ok(found.into_iter().map(|verdict| verdict.votes).collect())
 }
 
 #[cfg(test)]
@@ -70,6 +47,6 @@ held 3
     fn a_refusal_is_told() {
         let s = Several::read(SMALL).unwrap();
         let told = voted(&s, -1.0, &Options::default()).unwrap_err();
-        assert!(told.starts_with("refusal "), "{}", told);
+        assert!(told.starts_with("languages 1 and 2: refusal "), "{}", told);
     }
 }
