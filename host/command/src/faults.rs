@@ -52,36 +52,42 @@ pub fn of_pairs(s: &Samples, settings: &Settings, costs: &[f64], listed: Vec<Tro
         let given = given(&pair, settings, ceilings);
         if given.is_empty() {
             let own = cautions(&pair, settings, ceilings);
-            last.faults
-                .extend(own.faults.into_iter().map(|fault| match fault {
-                    Trouble::Usage(text) => Trouble::Usage(format!("{}, {}", text, named)),
-                    other => other,
-                }));
-            // A note has its kind before the first colon but one.
+            let faults = own.faults.into_iter().map(|fault| of_pair(fault, &named));
+            last.faults.extend(faults);
+            // A note has its kind between its first two colons.
             let new = own.notes.into_iter().filter(|note| {
                 let kind = note.splitn(3, ':').nth(1).unwrap_or_default();
                 seen.insert(kind.to_string())
             });
-            last.notes
-                .extend(new.map(|note| format!("{}, {}", note, named)));
+            let new = new.map(|note| format!("{}, {}", note, named));
+            last.notes.extend(new);
         }
-        all.extend(given.into_iter().filter_map(|fault| {
-            match fault {
-                Trouble::Refused(place, refusal) if refusal == Refusal::Samples => {
-                    Some(Trouble::Refused(format!("{} {}", place, named), refusal))
-                }
-                Trouble::Refused(place, refusal) => seen
-                    .insert(place.clone())
-                    .then(|| Trouble::Refused(format!("{}, {}", place, named), refusal)),
-                other => Some(other),
-            }
-        }));
+        let new = given.into_iter().filter(|fault| match fault {
+            Trouble::Refused(_, Refusal::Samples) => true,
+            Trouble::Refused(place, _) => seen.insert(place.clone()),
+            _ => true,
+        });
+        all.extend(new.map(|fault| of_pair(fault, &named)));
     }
     let mut faults = with_settings(all, settings, listed);
     faults.extend(last.faults);
     Judged {
         faults,
         notes: last.notes,
+    }
+}
+
+/// A fault with its pair.
+fn of_pair(fault: Trouble, named: &str) -> Trouble {
+    match fault {
+        Trouble::Usage(text) => Trouble::Usage(format!("{}, {}", text, named)),
+        Trouble::Refused(place, Refusal::Samples) => {
+            Trouble::Refused(format!("{} {}", place, named), Refusal::Samples)
+        }
+        Trouble::Refused(place, refusal) => {
+            Trouble::Refused(format!("{}, {}", place, named), refusal)
+        }
+        other => other,
     }
 }
 

@@ -73,34 +73,58 @@ fn carried_out(
         classes: samples.classes.len(),
     };
     let (samples, costs) = asked(samples, settings)?;
-    if samples.classes.len() > 2 {
-        return several::carried_out(call, &samples, &costs, (whole, listed), out, err, terminal);
+    match samples.classes.len() > 2 {
+        true => several::carried_out(call, &samples, &costs, (whole, listed), out, err, terminal),
+        false => {
+            let ceilings = (costs[0], costs[1]);
+            of_one_training(
+                call,
+                &samples,
+                ceilings,
+                (whole, listed),
+                out,
+                err,
+                terminal,
+            )
+        }
     }
-    let ceilings = (costs[0], costs[1]);
-    let mut judged = faults::judged(&samples, settings, ceilings, listed);
+}
+
+/// Carries out what is asked of two classes, or of one.
+fn of_one_training(
+    call: &Call,
+    samples: &Samples,
+    ceilings: (f64, f64),
+    (whole, listed): (Whole, Vec<Trouble>),
+    out: &mut dyn Write,
+    err: &mut (dyn Write + Send),
+    terminal: bool,
+) -> Result<(), Trouble> {
+    let settings = &call.settings;
+    let mut judged = faults::judged(samples, settings, ceilings, listed);
     judged.faults.splice(0..0, whole.wrong.iter().cloned());
-    let mut notes = judged.stand(call, &samples, out, err)?;
+    let mut notes = judged.stand(call, samples, out, err)?;
     if call.command == Command::Check {
         return Ok(());
     }
-    let finger = trail::finger(&samples, settings, &whole)?;
+    let finger = trail::finger(samples, settings, &whole)?;
     let answer = match &finger {
         Some(finger) if call.command == Command::Trail => {
-            let followed = || trail::followed(&samples, settings, ceilings, finger.sample);
+            let followed = || trail::followed(samples, settings, ceilings, finger.sample);
             let trail = progress::shown(err, terminal, "following", followed)?;
-            tell(out, &trail::text(&samples, settings, finger, &trail))?;
+            tell(out, &trail::text(samples, settings, finger, &trail))?;
             trail.answer
         }
         _ => {
-            let trained = || trained(&samples, settings, ceilings);
+            let trained = || trained(samples, settings, ceilings);
             progress::shown(err, terminal, "training", trained)?
         }
     };
-    notes.extend(report::of_answer(&samples, settings, &answer));
+    notes.extend(report::of_answer(samples, settings, &answer));
     notes.extend(report::of_shrinking(settings));
     let told = Told {
         call,
-        samples: &samples,
+        samples,
         ceilings,
         answer: &answer,
         whole: &whole,

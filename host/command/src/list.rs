@@ -228,49 +228,42 @@ impl List {
     }
 
     fn json(&self) -> String {
-        let string = |text: &Option<String>| Field::Text(text.clone()).json();
-        let training = |(name, rho, exit): &(String, f64, Option<String>)| {
-            let pair = Field::Text(Some(name.clone()).filter(|name| !name.is_empty()));
-            let (rho, exit) = (Field::Double(Some(*rho)).json(), string(exit));
-            format!(
-                "{{\"pair\": {}, \"rho\": {}, \"exit\": {}}}",
-                pair.json(),
-                rho,
-                exit
-            )
-        };
-        let row = |row: &Row| {
-            let fields = NAMES.iter().zip(row.fields());
-            let fields: Vec<String> = fields
-                .map(|(n, f)| format!("\"{}\": {}", n, f.json()))
-                .collect();
-            format!("    {{{}}}", fields.join(", "))
-        };
         let retired = self.retired.as_ref().map(|list| format!("{:?}", list));
+        let release = self.release.map(|yes| yes.to_string());
+        let or_null = |word: Option<String>| word.unwrap_or_else(|| "null".to_string());
         let trainings: Vec<String> = self.trainings.iter().map(training).collect();
-        let rows: Vec<String> = self.rows.iter().map(row).collect();
+        let rows: Vec<String> = self.rows.iter().map(Row::json).collect();
         let lines = [
-            ("file", string(&Some(self.path.clone()))),
+            ("file", text::json(&self.path)),
             ("model", self.model.to_string()),
             ("version", string(&self.version)),
             ("options", string(&self.options)),
             ("eps", Field::Double(self.eps).json()),
-            ("retired", retired.unwrap_or_else(|| "null".to_string())),
-            (
-                "release",
-                self.release
-                    .map_or("null".to_string(), |yes| yes.to_string()),
-            ),
+            ("retired", or_null(retired)),
+            ("release", or_null(release)),
             ("unfit", string(&self.unfit)),
             ("trainings", format!("[{}]", trainings.join(", "))),
             ("weights", format!("[\n{}\n  ]", rows.join(",\n"))),
         ];
-        let lines: Vec<String> = lines
-            .iter()
-            .map(|(n, w)| format!("  \"{}\": {}", n, w))
-            .collect();
+        let line = |(name, word): &(&str, String)| format!("  \"{}\": {}", name, word);
+        let lines: Vec<String> = lines.iter().map(line).collect();
         format!("{{\n{}\n}}\n", lines.join(",\n"))
     }
+}
+
+/// A string of JSON, or null.
+fn string(text: &Option<String>) -> String {
+    Field::Text(text.clone()).json()
+}
+
+/// A training in JSON. That of one class has no pair.
+fn training((name, rho, exit): &(String, f64, Option<String>)) -> String {
+    format!(
+        "{{\"pair\": {}, \"rho\": {}, \"exit\": {}}}",
+        string(&Some(name.clone()).filter(|name| !name.is_empty())),
+        Field::Double(Some(*rho)).json(),
+        string(exit)
+    )
 }
 
 /// A column of a class: its weights but for zeros, with its label and the other.
@@ -352,6 +345,12 @@ impl Field {
 }
 
 impl Row {
+    fn json(&self) -> String {
+        let fields = NAMES.iter().zip(self.fields());
+        let fields = fields.map(|(name, field)| format!("\"{}\": {}", name, field.json()));
+        format!("    {{{}}}", fields.collect::<Vec<_>>().join(", "))
+    }
+
     /// In the order of their names.
     fn fields(&self) -> [Field; 9] {
         let whole = |x: Option<i32>| Field::Whole(x.map(i64::from));

@@ -204,6 +204,22 @@ struct Row {
     values: Vec<f64>,
 }
 
+impl Row {
+    /// Whether it is as long as the first line, and its serial number is that of a value.
+    fn fits(&self, first: Option<&Row>) -> Result<(), String> {
+        let (found, serial) = (self.values.len(), self.serial);
+        let width = first.map_or(found, |first| first.values.len());
+        match found == width {
+            false => Err(format!("{} kernel values, but line 1 has {}", found, width)),
+            true if serial == 0 || serial > width => Err(format!(
+                "the serial number {} is none of 1 to {}",
+                serial, width
+            )),
+            true => Ok(()),
+        }
+    }
+}
+
 /// A text file. An error has its line.
 fn text(path: &str, data: &[u8], fit: Fit) -> Result<Samples, (usize, String)> {
     let mut rows: Vec<Row> = Vec::new();
@@ -213,21 +229,7 @@ fn text(path: &str, data: &[u8], fit: Fit) -> Result<Samples, (usize, String)> {
     for (k, line) in lines.filter(|_| !data.is_empty()) {
         let line = std::str::from_utf8(line).map_err(|_| (k + 1, "not a text".to_string()))?;
         let row = row(line).map_err(|told| (k + 1, told))?;
-        let width = rows
-            .first()
-            .map_or(row.values.len(), |first| first.values.len());
-        if row.values.len() != width {
-            let told = format!(
-                "{} kernel values, but line 1 has {}",
-                row.values.len(),
-                width
-            );
-            return Err((k + 1, told));
-        }
-        if row.serial == 0 || row.serial > width {
-            let told = format!("the serial number {} is none of 1 to {}", row.serial, width);
-            return Err((k + 1, told));
-        }
+        row.fits(rows.first()).map_err(|told| (k + 1, told))?;
         rows.push(row);
         kept.push(Line {
             number: k + 1,

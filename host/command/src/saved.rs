@@ -53,6 +53,27 @@ impl Model {
         Ok(model)
     }
 
+    /// Takes the lines below SV, as many as the counts say.
+    fn take(&mut self, lines: &[&str]) -> Result<(), (usize, String)> {
+        let total: usize = self.counts.iter().sum();
+        let width = self.labels.len().max(2) - 1;
+        for (k, line) in lines.iter().enumerate().skip(self.begins).take(total) {
+            // A record that comes too soon.
+            if line.starts_with('#') {
+                break;
+            }
+            let support = supporting(line, width).map_err(|told| (k + 1, told))?;
+            self.support.push(support);
+        }
+        match self.support.len() {
+            all if all == total => Ok(()),
+            some => {
+                let told = format!("the model ends after {} of {} lines below SV", some, total);
+                Err((self.begins + some, told))
+            }
+        }
+    }
+
     /// The lines of a class, by its number.
     pub fn lines(&self, class: usize) -> &[Support] {
         let start: usize = self.counts[..class - 1].iter().sum();
@@ -118,30 +139,17 @@ fn parsed(text: &str) -> Result<Model, (usize, String)> {
         None => return Err((lines.len().max(1), "the model ends before SV".to_string())),
     };
     let mut model = head.judged().map_err(|told| (begins, told))?;
-    let total: usize = model.counts.iter().sum();
-    let width = model.labels.len().max(2) - 1;
-    for (k, line) in lines.iter().enumerate().skip(begins).take(total) {
-        // A record that comes too soon.
-        if line.starts_with('#') {
-            break;
-        }
-        let support = supporting(line, width).map_err(|told| (k + 1, told))?;
-        model.support.push(support);
-    }
+    model.begins = begins;
+    model.take(&lines)?;
     let after = begins + model.support.len();
-    if model.support.len() < total {
-        let told = format!(
-            "the model ends after {} of {} lines below SV",
-            model.support.len(),
-            total
-        );
-        return Err((after, told));
-    }
     model.record = match lines.get(after) {
         None => None,
         Some(line) if line.starts_with('#') => Some(Record::read(&lines, after)?),
         Some(_) => {
-            let told = format!("more lines below SV than the {} that total_sv says", total);
+            let told = format!(
+                "more lines below SV than the {} that total_sv says",
+                model.support.len()
+            );
             return Err((after + 1, told));
         }
     };
@@ -150,7 +158,6 @@ fn parsed(text: &str) -> Result<Model, (usize, String)> {
         let told = "the last line has no end: the model may have been cut short";
         return Err((lines.len(), told.to_string()));
     }
-    model.begins = begins;
     Ok(model)
 }
 

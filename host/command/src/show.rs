@@ -3,6 +3,7 @@ use crate::arguments::{Call, Fit, Showing};
 use crate::list::List;
 use crate::model::double;
 use crate::problem::Samples;
+use crate::record::Record;
 use crate::saved::Model;
 use crate::{input, noted, problem, record, tell, Trouble};
 use std::io::Write;
@@ -64,20 +65,6 @@ fn recorded(model: &Model) -> Vec<String> {
         }
     };
     let retired: Vec<String> = record.retired.iter().map(u64::to_string).collect();
-    let spent = |end: &&String| *end != "threshold";
-    let exit = match record.exits.iter().find(spent) {
-        None => "threshold".to_string(),
-        Some(other) if record.exits.len() == 1 => other.clone(),
-        Some(_) => {
-            let named = model.trainings().into_iter().zip(&record.exits);
-            let named = named.filter(|(_, end)| spent(end));
-            let named: Vec<String> = named.map(|((name, _), _)| name).collect();
-            format!(
-                "iterations, of {}; threshold, of the others",
-                named.join(" ")
-            )
-        }
-    };
     vec![
         format!("written by: altuliscia {}", record.version),
         format!("options: {}", record.options),
@@ -85,7 +72,7 @@ fn recorded(model: &Model) -> Vec<String> {
             true => "retired: nobody".to_string(),
             false => format!("retired: {}", retired.join(",")),
         },
-        format!("exit reason: {}", exit),
+        format!("exit reason: {}", exit(model, record)),
         match &record.unfit {
             None => "to be released: nothing speaks against it".to_string(),
             Some(why) => format!("to be released: no: {}", why),
@@ -95,6 +82,21 @@ fn recorded(model: &Model) -> Vec<String> {
             record.samples, record.hash
         ),
     ]
+}
+
+/// Why its trainings ended.
+fn exit(model: &Model, record: &Record) -> String {
+    let ends = model.trainings().into_iter().zip(&record.exits);
+    let spent = ends.filter(|(_, end)| *end != "threshold");
+    let spent: Vec<String> = spent.map(|((name, _), _)| name).collect();
+    match (spent.len(), record.exits.len()) {
+        (0, _) => "threshold".to_string(),
+        (_, 1) => "iterations".to_string(),
+        _ => format!(
+            "iterations, of {}; threshold, of the others",
+            spent.join(" ")
+        ),
+    }
 }
 
 /// That a model was trained on a file; the error is that it wasn't, or doesn't say.

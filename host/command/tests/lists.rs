@@ -199,7 +199,13 @@ fn the_weights_of_a_model_are_those_that_were_trained() {
         "{}",
         err
     );
-    // It isn't told from a problem by anything but its first word.
+}
+
+#[test]
+fn what_a_model_does_not_say_is_empty() {
+    let f = folder("lists-bare");
+    let (path, model) = (file(&f, "a", PANEL.as_bytes()), file(&f, "model", b"old"));
+    told("train -q -c 0.5 FILE MODEL", &path, &model).unwrap();
     let old = fs::read_to_string(&model).unwrap();
     let old = file(&f, "old", bare(&old).as_bytes());
     let json = told("weights --json MODEL", "", &old).unwrap();
@@ -339,7 +345,13 @@ fn decisions_are_votes() {
         }
         assert_eq!(fields(csv.lines().nth(11).unwrap())[4], "false");
     }
-    // Zero is the first's, as in the votes.
+}
+
+/// Zero is the first's, as in the votes.
+#[test]
+fn decisions_are_told_with_every_digit() {
+    let f = folder("lists-digits");
+    let model = file(&f, "model", b"old");
     let small = file(&f, "small", SMALL.as_bytes());
     told("train -q FILE MODEL", &small, &model).unwrap();
     let held = file(&f, "held", b"7 0:1 1:1 2:1\n0:2 1:1 2:1.0000000000000002\n");

@@ -61,6 +61,12 @@ fn a_model_records_its_training() {
     }
     // One class has no labels, so its hash is another one.
     assert_ne!(record(&model)[5], samples);
+}
+
+#[test]
+fn a_model_of_several_records_every_pair() {
+    let f = folder("record-several");
+    let model = file(&f, "model", b"old");
     let panel = file(&f, "panel", PANEL.as_bytes());
     let words = [
         "train",
@@ -129,30 +135,24 @@ fn a_model_is_shown_in_words() {
     assert!(status == 6 && out.contains(spent), "{}", out);
 }
 
-/// Whether a file is what a model was trained on hangs on every number of it, and on no name of it.
+/// Whether `show` says that a model was trained on a file.
+fn agrees(model: &str, file: &str) -> bool {
+    let (status, out, err) = whole(&["show", model, file]);
+    let said = out.ends_with(&format!("{}: this is what it was trained on\n", file));
+    assert_eq!(said, status == 0, "{}", out);
+    assert!(status == 0 || status == 7 && !err.is_empty(), "{}", err);
+    said
+}
+
+/// It hangs on every number of the file, and on no name of it.
 #[test]
 fn a_model_is_compared_with_a_file() {
     let f = folder("record-compared");
     let (path, model) = (file(&f, "a", SMALL.as_bytes()), file(&f, "model", b"old"));
-    let agrees = |file: &str| {
-        let (status, out, err) = whole(&["show", &model, file]);
-        let said = out.ends_with(&format!("{}: this is what it was trained on\n", file));
-        assert_eq!(said, status == 0, "{}", out);
-        assert!(
-            status == 0 || status == 7 && !err.is_empty(),
-            "{} {}",
-            status,
-            err
-        );
-        status == 0
-    };
     told("train -q FILE MODEL", &path, &model).unwrap();
-    assert!(agrees(&path));
-    assert!(agrees(&file(
-        &f,
-        "b",
-        SMALL.replace("1:1", "1:1.0").as_bytes()
-    )));
+    assert!(agrees(&model, &path));
+    let same = SMALL.replace("1:1", "1:1.0");
+    assert!(agrees(&model, &file(&f, "b", same.as_bytes())));
     for (from, to) in [
         ("2:1\n", "2:1.0000000000000002\n"),
         ("7 0:1 1:1 2:0\n", "7 0:1 1:1 2:-0\n"),
@@ -167,41 +167,37 @@ fn a_model_is_compared_with_a_file() {
         ),
     ] {
         assert_eq!(SMALL.matches(from).count(), 1, "{}", from);
-        assert!(
-            !agrees(&file(&f, "b", SMALL.replace(from, to).as_bytes())),
-            "{}",
-            to
-        );
+        let other = file(&f, "b", SMALL.replace(from, to).as_bytes());
+        assert!(!agrees(&model, &other), "{}", to);
     }
-    // Bytes are the same samples, where the labels are called 1 and 0.
-    let text = SMALL.replace("7 0", "1 0").replace("3 0", "0 0");
-    let text = file(&f, "c", text.as_bytes());
-    told("train -q FILE MODEL", &text, &model).unwrap();
-    assert!(agrees(&file(
-        &f,
-        "d",
-        &own(2, &[1.0, 0.0, 0.0, 1.0], &[1, 0])
-    )));
-    assert!(!agrees(&file(
-        &f,
-        "d",
-        &own(2, &[1.0, 0.0, 0.0, 1.0], &[0, 1])
-    )));
-    // Of a pair: the file that it was taken from. The retired are the model's to say.
-    let panel = file(&f, "panel", PANEL.as_bytes());
-    told("train -q --pair 3,1 --retired 4 FILE MODEL", &panel, &model).unwrap();
-    assert!(agrees(&panel) && !agrees(&text));
-    told("train -q FILE MODEL", &panel, &model).unwrap();
-    assert!(agrees(&panel));
-    assert!(!agrees(&file(
-        &f,
-        "e",
-        PANEL.replace("1 0:1 1:6", "1 0:1 1:7").as_bytes()
-    )));
-    told("train -q -s 2 FILE MODEL", &panel, &model).unwrap();
-    assert!(agrees(&panel) && !agrees(&text));
     let trouble = told("show MODEL no-such-file", "", &model).unwrap_err();
     assert_eq!(trouble.status(), 3);
+}
+
+#[test]
+fn a_model_of_other_classes_is_compared_with_a_file() {
+    let f = folder("record-classes");
+    let model = file(&f, "model", b"old");
+    // Bytes are the same samples, where the labels are called 1 and 0.
+    let text = SMALL.replace("7 0", "1 0").replace("3 0", "0 0");
+    let text = file(&f, "text", text.as_bytes());
+    told("train -q FILE MODEL", &text, &model).unwrap();
+    for (labels, same) in [([1, 0], true), ([0, 1], false)] {
+        let bytes = file(&f, "bytes", &own(2, &[1.0, 0.0, 0.0, 1.0], &labels));
+        assert_eq!(agrees(&model, &bytes), same);
+    }
+    // Of a pair: the file that it was taken from. The retired are the model's to say.
+    let panel = file(&f, "panel", PANEL.as_bytes());
+    for options in ["--pair 3,1 --retired 4", "-c 2", "-s 2"] {
+        told(&format!("train -q {} FILE MODEL", options), &panel, &model).unwrap();
+        assert!(
+            agrees(&model, &panel) && !agrees(&model, &text),
+            "{}",
+            options
+        );
+        let other = PANEL.replace("1 0:1 1:6", "1 0:1 1:7");
+        assert!(!agrees(&model, &file(&f, "other", other.as_bytes())));
+    }
 }
 
 /// Whatever byte is changed, and wherever the model is cut, it is noticed; but for a cut that leaves a whole model without a record.

@@ -112,18 +112,7 @@ fn what_is_not_to_be_released_has_status_6() {
         let (status, _, err) = whole(&[&train[..], &["--write-anyway"]].concat());
         let end = told(&format!("; {} was written all the same", model));
         assert!(status == 6 && err.ends_with(&end), "{}", err);
-        // The model says so itself, to whoever reads it.
-        let written = fs::read_to_string(model).unwrap();
-        assert!(written.contains(&format!("\n# release no: {}\n", why)));
-        let isnt = format!("{} isn't to be released: {}\n", model, why);
-        for words in [&["show", model][..], &["weights", model]] {
-            let (status, _, err) = whole(words);
-            assert!(status == 6 && err.ends_with(&isnt), "{}", err);
-        }
-        let held = file(&f, "held", b"0:1 1:1 2:0 3:0 4:0\n");
-        for words in [["sort", "-q", model, &held], ["decide", "-q", model, &held]] {
-            assert_eq!(whole(&words).2, format!("note: {}", isnt));
-        }
+        says_so(model, why);
         let (status, out, err) = whole(&[&["weights"][..], &options, &[&path]].concat());
         assert!(status == 6 && err.ends_with(&told("")), "{}", err);
         assert!(out.starts_with("sample serial "));
@@ -133,6 +122,23 @@ fn what_is_not_to_be_released_has_status_6() {
             assert!(status == 6 && err.ends_with(&told("")), "{}", err);
             assert!(out.starts_with("serial 1, sample 0"));
         }
+    }
+}
+
+/// A model says itself why it isn't to be released, to whoever reads it.
+fn says_so(model: &str, why: &str) {
+    let written = fs::read_to_string(model).unwrap();
+    assert!(written.contains(&format!("\n# release no: {}\n", why)));
+    let isnt = format!("{} isn't to be released: {}\n", model, why);
+    for words in [&["show", model][..], &["weights", model]] {
+        let (status, _, err) = whole(words);
+        assert!(status == 6 && err.ends_with(&isnt), "{}", err);
+    }
+    let held = format!("{}.held", model);
+    fs::write(&held, "0:1 1:1 2:0 3:0 4:0\n").unwrap();
+    for command in ["sort", "decide"] {
+        let (status, _, err) = whole(&[command, "-q", model, &held]);
+        assert_eq!((status, err), (0, format!("note: {}", isnt)));
     }
 }
 
