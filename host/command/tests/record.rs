@@ -68,6 +68,17 @@ fn a_model_of_several_records_every_pair() {
     let f = folder("record-several");
     let model = file(&f, "model", b"old");
     let panel = file(&f, "panel", PANEL.as_bytes());
+    let unwritten = [
+        "train",
+        "-q",
+        "--budget=30",
+        "--retired",
+        "7,4",
+        &panel,
+        &model,
+    ];
+    assert_eq!(whole(&unwritten).0, 6);
+    assert_eq!(fs::read(&model).unwrap(), b"old");
     let words = [
         "train",
         "-q",

@@ -14,6 +14,15 @@ const COMMANDS: [&[&str]; 4] = [
     &["trail", "--sample", "1"],
 ];
 
+/// What a command tells with these words more; a model goes nowhere.
+fn done(command: &[&str], words: &[&str]) -> (u8, String, String) {
+    let model = match command[0] {
+        "train" => &["/dev/null"][..],
+        _ => &[],
+    };
+    whole(&[command, words, model].concat())
+}
+
 #[test]
 fn a_serial_number_of_two_lines_is_a_fault() {
     let f = folder("wrong-twice");
@@ -29,11 +38,10 @@ fn a_serial_number_of_two_lines_is_a_fault() {
         let path = file(&f, "a", text.as_bytes());
         let line = format!("{}:3: the serial number 1 is that of line 1, too", path);
         for command in COMMANDS {
-            let words = [command, more, &[&path]].concat();
-            let (status, out, err) = whole(&words);
-            assert_eq!(status, 3, "{:?}", words);
+            let (status, out, err) = done(command, &[more, &[&path]].concat());
+            assert_eq!(status, 3, "{:?} {:?}", command, more);
             let place = if command[0] == "check" { &out } else { &err };
-            assert!(place.contains(&line), "{:?} {}", words, place);
+            assert!(place.contains(&line), "{:?} {}", command, place);
         }
     }
     let path = file(&f, "b", two.replace("7 0:1 1:0", "9 0:1 1:0").as_bytes());
@@ -51,18 +59,11 @@ fn a_serial_number_without_a_line_is_a_fault() {
         "{}: 2 lines of 3 kernel values each: the serial number 3 has no line (--part takes a file that has some of the samples only)",
         path
     );
-    let model = f.join("model").to_str().unwrap().to_string();
     for command in COMMANDS {
-        let words = [command, &[&path]].concat();
-        let (status, out, err) = whole(&words);
+        let (status, out, err) = done(command, &[&path]);
         let place = if command[0] == "check" { &out } else { &err };
         assert!(status == 3 && place.contains(&line), "{}", place);
-        let words = [
-            command,
-            &["--part", &path],
-            &[model.as_str()][..usize::from(command[0] == "train")],
-        ];
-        assert_eq!(whole(&words.concat()).0, 0, "{:?}", command);
+        assert_eq!(done(command, &["--part", &path]).0, 0, "{:?}", command);
     }
 }
 
@@ -178,14 +179,12 @@ fn a_nu_that_can_not_be_met_is_a_fault_of_the_words() {
     let path = file(&f, "a", text([4, 2, 2, 2, 2]).as_bytes());
     let fault = "-n 0.5 can't be met: half of it times 5 samples is above 1, the number of those of label 4 (see altuliscia --help)";
     for command in COMMANDS {
-        let (status, out, err) = whole(&[command, &["-s", "1", &path]].concat());
+        let (status, out, err) = done(command, &["-s", "1", &path]);
         let place = if command[0] == "check" { &out } else { &err };
         assert!(status == 2 && place.contains(fault), "{}", place);
         // 2*1/5 can be.
-        if command[0] != "train" {
-            let (status, ..) = whole(&[command, &["-s1", "-n0.4", &path]].concat());
-            assert!([0, 6].contains(&status));
-        }
+        let (status, ..) = done(command, &["-s1", "-n0.4", &path]);
+        assert!([0, 6].contains(&status));
     }
     // The rarer label may be the second.
     let turned = file(&f, "b", text([2, 2, 4, 2, 2]).as_bytes());
@@ -216,12 +215,7 @@ fn a_kernel_that_is_not_symmetric_gets_a_note() {
     let path = file(&f, "a", text.as_bytes());
     let note = "note: the kernel isn't symmetric: serial 2 has 0.0 with serial 1, which has 0.25 with it; 1 of two samples differ so, and none by more\n";
     for command in COMMANDS {
-        let words = [
-            command,
-            &["-q", &path],
-            &["/dev/null"][..usize::from(command[0] == "train")],
-        ];
-        let (status, _, err) = whole(&words.concat());
+        let (status, _, err) = done(command, &["-q", &path]);
         assert_eq!((status, err.as_str()), (0, note), "{:?}", command);
     }
     // What is retired has no say; with three labels it is told once, with its pair.
@@ -239,12 +233,8 @@ fn costs_that_differ_get_a_note() {
     let path = file(&f, "a", SMALL.as_bytes());
     let note = "note: the costs differ: label 7 has 0.5, label 3 has 1.0; it isn't promised then that every weight lies in 0..ceiling\n";
     for command in COMMANDS {
-        let words = [
-            command,
-            &["-q", "-w7", "0.5", &path],
-            &["/dev/null"][..usize::from(command[0] == "train")],
-        ];
-        assert_eq!(whole(&words.concat()).2, note, "{:?}", command);
+        let (_, _, err) = done(command, &["-q", "-w7", "0.5", &path]);
+        assert_eq!(err, note, "{:?}", command);
     }
     // The same factor for both is none.
     assert_eq!(whole(&["check", "-w7", "2", "-w3", "2", &path]).2, "");
