@@ -89,7 +89,8 @@ impl fmt::Display for Trouble {
                 let told = refused(place, refusal);
                 write!(f, "{} (refusal {})", told, refusal.number())
             }
-            Trouble::Faults(_) => write!(f, "this problem would be refused"),
+            Trouble::Faults(status) if *status > 10 => write!(f, "this problem would be refused"),
+            Trouble::Faults(_) => write!(f, "this problem would not be trained"),
         }
     }
 }

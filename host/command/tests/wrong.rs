@@ -188,8 +188,9 @@ fn a_nu_that_can_not_be_met_is_a_fault_of_the_words() {
     }
     // The rarer label may be the second.
     let turned = file(&f, "b", text([2, 2, 4, 2, 2]).as_bytes());
-    let (_, out, _) = whole(&["check", "-s1", &turned]);
+    let (_, out, err) = whole(&["check", "-s1", &turned]);
     assert!(out.starts_with(fault), "{}", out);
+    assert_eq!(err, "altuliscia: this problem would not be trained\n");
     // Of several, each pair that meets it; one class has no such rule, nor has a cost.
     let three = file(&f, "c", text([4, 2, 2, 2, 9]).as_bytes());
     let (status, out, _) = whole(&["check", "-s1", "-n.75", &three]);
