@@ -115,7 +115,7 @@ fn cautions(s: &Samples, settings: &Settings, ceilings: (f64, f64)) -> Judged {
                 mirrored,
                 count,
             } => judged.notes.push(format!(
-                "note: the kernel isn't symmetric: serial {} has {} with serial {}, which has {} with it; {} of two samples differ so, and none by more",
+                "note: the kernel isn't symmetric: serial {0} has {1} with serial {2}, but serial {2} has {3} with serial {0} (places that differ: {4}, none by more)",
                 s.serials[column], double(entry), s.serials[row], double(mirrored), count
             )),
             Caution::UnequalCeilings => judged.notes.push(format!(
@@ -230,7 +230,10 @@ fn lengths(s: &Samples) -> String {
             8 * s.n * s.n,
             s.n
         ),
-        false => format!("{}: what follows n is as long as no n has it", s.path),
+        false => format!(
+            "{}: what follows n isn't the matrix and the labels of {} samples",
+            s.path, s.n
+        ),
     }
 }
 

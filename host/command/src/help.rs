@@ -100,12 +100,12 @@ pub const TRAIN: &str = concat!(
     "altuliscia train [OPTIONS] FILE [MODEL]
 
 Trains the problem of FILE, writes a model file and says how the run ended: the lines that
-svm-train ends with, the options, and the exit reason (threshold: no pair is left to mend, with -h
-1: among the samples still active; iterations: the budget ran out); with --retired also who is
-retired, with --floor a floor that isn't the usual one. nSV counts the weights above 100*2^-52 in
-magnitude, and nBSV those of them that are at their ceiling or above it. Notes are told on standard
-error: a kernel that isn't symmetric, costs that differ, what shrinking leaves out, weights that the
-Rust crate linfa-svm gives to others. With -q nothing else is told.
+svm-train ends with, the options, and the exit reason. (threshold: no pair is left to mend, with
+-h 1: among the samples still active; iterations: the budget ran out.) With --retired it also says
+who is retired, and with --floor a floor that isn't the usual one. nSV counts the weights above
+100*2^-52 in magnitude, and nBSV those of them that are at their ceiling or above it. Notes are told
+on standard error: a kernel that isn't symmetric, costs that differ, what shrinking leaves out,
+weights that the Rust crate linfa-svm gives to others. With -q nothing else is told.
 
 MODEL is what LIBSVM's svm-predict reads for a precomputed kernel. Where it isn't named it is
 FILE's name with .model, in this folder. Its weights are each sample's own (the home reading), all

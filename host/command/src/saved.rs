@@ -5,6 +5,7 @@ use crate::problem::whole;
 use crate::record::Record;
 use crate::{input, text, Trouble};
 use altuliscia::{pairs, FEWEST_LANGUAGES, MOST_LANGUAGES};
+use std::collections::BTreeSet;
 use std::str::FromStr;
 
 /// A model as its file has it.
@@ -92,7 +93,7 @@ impl Model {
         names.into_iter().zip(self.rhos.iter().copied()).collect()
     }
 
-    /// Why it isn't to be released, where it says so itself: by its record, by a rho, or since it lists nobody.
+    /// Why it isn't to be released, where it says so itself: by its record, by a rho, since it lists nobody, or somebody twice.
     pub fn unfit(&self) -> Option<String> {
         let recorded = self.record.as_ref().and_then(|record| record.unfit.clone());
         let rho = || {
@@ -110,7 +111,12 @@ impl Model {
                 .is_empty()
                 .then(|| "it lists no weight".to_string())
         };
-        recorded.or_else(rho).or_else(nobody)
+        let twice = || {
+            let mut seen = BTreeSet::new();
+            let again = self.support.iter().find(|line| !seen.insert(line.serial));
+            again.map(|line| format!("it has the serial number {} twice", line.serial))
+        };
+        recorded.or_else(rho).or_else(nobody).or_else(twice)
     }
 }
 
@@ -175,7 +181,7 @@ impl<'a> Head<'a> {
             "label" => once(&mut self.labels, name, numbers(name, &rest)?),
             "nr_sv" => once(&mut self.counts, name, numbers(name, &rest)?),
             // Of probabilities, which no vote needs.
-            "probA" | "probB" => Ok(()),
+            "probA" | "probB" | "prob_density_marks" => Ok(()),
             _ => Err(format!("'{}' is no word of a model above SV", name)),
         }
     }

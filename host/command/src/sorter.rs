@@ -162,7 +162,10 @@ SV
         assert!(decided[2].is_nan());
         // Words of a model with probabilities, another order of the head, ends of lines.
         let other = MODEL
-            .replace("nr_sv", "probA 1 2 3\nprobB 1 2 3\nnr_sv")
+            .replace(
+                "nr_sv",
+                "probA 1 2 3\nprobB 1 2 3\nprob_density_marks 1\nnr_sv",
+            )
             .replace("svm_type c_svc\n", "")
             .replace("SV\n", "svm_type nu_svc\nSV\n")
             .replace('\n', " \r\n");

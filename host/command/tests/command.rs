@@ -135,7 +135,7 @@ fn weights_that_are_listed_and_not_counted_are_told() {
     let note = "note: the costs differ: label 1 has 1.0, label -1 has 1e-14; it isn't promised then that every weight lies in 0..ceiling\n";
     assert_eq!((out.as_str(), err.as_str()), ("", note));
     let help = told("train --help", "", "").unwrap();
-    assert!(help.contains("nSV counts the weights above 100*2^-52 in\nmagnitude"));
+    assert!(help.contains("nSV counts the weights above\n100*2^-52 in magnitude"));
     assert!(help.contains("where these are more than nSV, a line says how many and why."));
 }
 
@@ -188,7 +188,7 @@ fn with_shrinking_on_a_note_says_what_it_leaves_out() {
         assert_eq!(with("-h 1"), (out, err + ON));
     }
     let help = told("train --help", "", "").unwrap();
-    let limit = "no pair is left to mend, with -h\n1: among the samples still active;";
+    let limit = "no pair is left to mend, with\n-h 1: among the samples still active;";
     assert!(help.contains(limit));
 }
 

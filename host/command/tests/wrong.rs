@@ -143,9 +143,9 @@ fn says_so(model: &str, why: &str) {
     }
 }
 
-/// A model of svm-train has no record, but its rho tells.
+/// A model of svm-train has no record, but its rho and its lines tell.
 #[test]
-fn a_rho_that_is_not_finite_is_told_where_it_is_sorted_by() {
+fn what_a_model_shows_by_itself_is_told_where_it_is_sorted_by() {
     let f = folder("wrong-rho");
     let head = "svm_type c_svc\nkernel_type precomputed\nnr_class 3\ntotal_sv 1\nrho 0 nan inf\nlabel 7 3 9\nnr_sv 1 0 0\nSV\n1 1 0:1\n";
     let model = file(&f, "model", head.as_bytes());
@@ -164,6 +164,19 @@ fn a_rho_that_is_not_finite_is_told_where_it_is_sorted_by() {
     let (_, err) = both("sort -q MODEL FILE", &held, &model).unwrap();
     let note = format!("note: {} isn't to be released: it lists no weight\n", model);
     assert_eq!(err, note);
+    // Of a file that had a serial number twice, which svm-train takes, and so did altuliscia up to 1.5.0.
+    let twice = head.replace("total_sv 1", "total_sv 3");
+    let twice = twice.replace("nr_sv 1 0 0", "nr_sv 1 2 0");
+    let twice = twice.replace("rho 0 nan inf", "rho 0 0 0") + "-1 1 0:4\n-1 1 0:1\n";
+    let model = file(&f, "model", twice.as_bytes());
+    let held = file(&f, "held", b"7 0:1 1:1 2:0 3:0 4:0\n");
+    let (_, err) = both("sort -q MODEL FILE", &held, &model).unwrap();
+    let note = format!(
+        "note: {} isn't to be released: it has the serial number 1 twice\n",
+        model
+    );
+    assert_eq!(err, note);
+    assert_eq!(whole(&["show", &model]).0, 6);
 }
 
 #[test]
@@ -214,7 +227,7 @@ fn a_kernel_that_is_not_symmetric_gets_a_note() {
     let f = folder("wrong-sides");
     let text = "7 0:2 1:0 2:1 3:5\n3 0:1 1:1 2:0.25 3:0\n7 0:3 1:0 2:5 3:9\n";
     let path = file(&f, "a", text.as_bytes());
-    let note = "note: the kernel isn't symmetric: serial 2 has 0.0 with serial 1, which has 0.25 with it; 1 of two samples differ so, and none by more\n";
+    let note = "note: the kernel isn't symmetric: serial 2 has 0.0 with serial 1, but serial 1 has 0.25 with serial 2 (places that differ: 1, none by more)\n";
     for command in COMMANDS {
         let (status, _, err) = done(command, &["-q", &path]);
         assert_eq!((status, err.as_str()), (0, note), "{:?}", command);
