@@ -56,7 +56,7 @@ pub fn of_pairs(s: &Samples, settings: &Settings, costs: &[f64], listed: Vec<Tro
             last.faults.extend(faults);
             // A note has its kind between its first two colons.
             let new = own.notes.into_iter().filter(|note| {
-                let kind = note.splitn(3, ':').nth(1).unwrap_or_default();
+                let kind = note.split(':').nth(1).unwrap_or_default();
                 seen.insert(kind.to_string())
             });
             let new = new.map(|note| format!("{}, {}", note, named));

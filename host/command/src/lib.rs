@@ -107,7 +107,8 @@ fn of_one_training(
     if call.command == Command::Check {
         return Ok(());
     }
-    let finger = trail::finger(samples, settings, &whole)?;
+    let captions = trail::captions(samples, settings, &whole)?;
+    let finger = trail::finger(samples, settings, &whole, captions.clone())?;
     let answer = match &finger {
         Some(finger) if call.command == Command::Trail => {
             let followed = || trail::followed(samples, settings, ceilings, finger.sample);
@@ -129,7 +130,7 @@ fn of_one_training(
         answer: &answer,
         whole: &whole,
     };
-    told.out(finger, out)?;
+    told.out(finger, captions, out)?;
     told.err(notes, err);
     told.ended()
 }
@@ -154,7 +155,12 @@ struct Told<'a> {
 
 impl Told<'_> {
     /// Writes the model, or the list; of a trail all was told.
-    fn out(&self, finger: Option<trail::Finger>, out: &mut dyn Write) -> Result<(), Trouble> {
+    fn out(
+        &self,
+        finger: Option<trail::Finger>,
+        captions: Option<Vec<String>>,
+        out: &mut dyn Write,
+    ) -> Result<(), Trouble> {
         let (s, settings, ceilings, answer) = (
             self.samples,
             &self.call.settings,
@@ -164,7 +170,6 @@ impl Told<'_> {
         match self.call.command {
             Command::Weights => {
                 let mut list = list::List::of(s, settings, ceilings, answer);
-                let captions = trail::captions(s, settings, self.whole)?;
                 list.captioned(&captions.unwrap_or_default());
                 if let Some(finger) = finger {
                     list.rows.retain(|row| row.sample == Some(finger.sample));

@@ -65,12 +65,12 @@ impl Samples {
             }
         }
         let missing = (1..=self.width as u64).find(|serial| !seen.contains_key(serial));
-        match missing.filter(|_| !part && wrong.is_empty() && !self.lines.is_empty()) {
-            Some(serial) => wrong.push(Trouble::File(format!(
+        let passed = part || !wrong.is_empty() || self.lines.is_empty();
+        if let Some(serial) = missing.filter(|_| !passed) {
+            wrong.push(Trouble::File(format!(
                 "{}: {} lines of {} kernel values each: the serial number {} has no line (--part takes a file that has some of the samples only)",
                 self.path, self.n, self.width, serial
-            ))),
-            None => {}
+            )));
         }
         wrong
     }

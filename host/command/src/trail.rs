@@ -22,7 +22,12 @@ impl Finger {
 }
 
 /// What a call points at, where it names a sample.
-pub fn finger(s: &Samples, settings: &Settings, whole: &Whole) -> Result<Option<Finger>, Trouble> {
+pub fn finger(
+    s: &Samples,
+    settings: &Settings,
+    whole: &Whole,
+    captions: Option<Vec<String>>,
+) -> Result<Option<Finger>, Trouble> {
     let word = match &settings.sample {
         Some(word) => word,
         None => return Ok(None),
@@ -41,7 +46,7 @@ pub fn finger(s: &Samples, settings: &Settings, whole: &Whole) -> Result<Option<
     };
     Ok(Some(Finger {
         sample: s.with_serial(word).map_err(wrong)?,
-        captions: captions(s, settings, whole)?,
+        captions,
         pair: whole.classes > 2,
     }))
 }
