@@ -154,9 +154,9 @@ Told are, a line for each caption: its line and its serial in FILE, its label th
 it is sorted to with its votes, the runner-up with its own, and `tie of ..` with the labels that
 share the most votes, where several do, and `K(j) is nan` (or inf) where a value that has a say
 isn't finite. Of those that FILE has a label for, the part that is sorted so is told on standard
-error, and how many ties there are; and a note where MODEL isn't to be released, or a value isn't
-finite. Where something in FILE is wrong, nothing but that is told. MODEL or FILE may be -, standard
-input.
+error, and how many ties there are; and a note where MODEL isn't to be released, where a value isn't
+finite, and where FILE has a label that MODEL hasn't. Where something in FILE is wrong, nothing but
+that is told. MODEL or FILE may be -, standard input.
 
   --votes     tells the votes of every language, too, as LABEL:VOTES
   --labels    tells nothing but the label of each, a line each, which is what svm-predict writes

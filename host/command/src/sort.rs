@@ -68,20 +68,31 @@ pub fn carried_out(
 
 /// What isn't well with a model, and with captions that are sorted by it.
 pub fn notes<'a>(model: &Model, captions: impl Iterator<Item = &'a Caption>) -> Vec<String> {
+    let captions: Vec<&Caption> = captions.collect();
     let why = model.unfit();
     let unfit = why.map(|why| format!("note: {} isn't to be released: {}", model.path, why));
-    let wild: Vec<usize> = captions
-        .filter(|c| c.wild.is_some())
-        .map(|c| c.line)
-        .collect();
-    let told = wild.first().map(|line| {
+    let wild = captions.iter().filter(|c| c.wild.is_some());
+    let wild = wild.clone().next().map(|first| {
         format!(
             "note: a kernel value that isn't finite has a say in {} of the captions, the first in line {}",
-            wild.len(),
-            line
+            wild.count(),
+            first.line
         )
     });
-    unfit.into_iter().chain(told).collect()
+    // One class has no labels, and any may stand there.
+    let known = |label: &i32| model.labels.is_empty() || model.labels.contains(label);
+    let strange = |c: &&&Caption| c.label.map_or(false, |label| !known(&label));
+    let strange = captions.iter().filter(strange);
+    let strange = strange.clone().next().map(|first| {
+        format!(
+            "note: {} of the captions have a label that {} hasn't, the first {} in line {}",
+            strange.count(),
+            model.path,
+            first.label.unwrap_or_default(),
+            first.line
+        )
+    });
+    [unfit, wild, strange].into_iter().flatten().collect()
 }
 
 /// The captions of a file, with as many kernel values as a model asks for.

@@ -285,3 +285,25 @@ fn a_value_that_is_not_finite_is_marked() {
     ];
     assert_eq!((lines, err.as_str()), (expected.to_vec(), note));
 }
+
+/// Such a caption is sorted wrongly in any case, and counts so in the accuracy.
+#[test]
+fn a_label_that_the_model_has_not_is_told() {
+    let f = folder("wrong-label");
+    let model = file(&f, "model", b"old");
+    let train = file(&f, "small", SMALL.as_bytes());
+    told("train -q FILE MODEL", &train, &model).unwrap();
+    let text = "7 0:1 1:1 2:0\n0:2 1:1 2:0\n-1 0:3 1:0 2:1\n1 0:4 1:1 2:0\n";
+    let path = file(&f, "held", text.as_bytes());
+    let note = format!(
+        "note: 2 of the captions have a label that {} hasn't, the first -1 in line 3\n",
+        model
+    );
+    for line in ["sort -q MODEL FILE", "decide -q MODEL FILE"] {
+        let (_, err) = both(line, &path, &model).unwrap();
+        assert_eq!(err, note);
+    }
+    told("train -q -s 2 FILE MODEL", &train, &model).unwrap();
+    let (_, err) = both("decide -q MODEL FILE", &path, &model).unwrap();
+    assert_eq!(err, "");
+}
