@@ -599,6 +599,31 @@ mod tests {
     }
 
     #[test]
+    fn help_and_version_have_several_words() {
+        let text = |line: &str| match parsed(line) {
+            Ok(Words::Help(text)) => text,
+            _ => panic!("{}", line),
+        };
+        for line in ["-V", "--version"] {
+            assert_eq!(text(line), help::VERSION);
+        }
+        for line in ["-h", "--help", "help"] {
+            assert_eq!(text(line), help::ALL);
+        }
+        for line in [
+            "help decide",
+            "decide -h",
+            "decide a --help",
+            "decide --help -- b",
+        ] {
+            assert_eq!(text(line), help::DECIDE);
+        }
+        // With a value it is shrinking.
+        assert!(call("train -h 1 a").settings.shrinking);
+        assert!(matches!(parsed("train a -h"), Err(Trouble::Usage(_))));
+    }
+
+    #[test]
     fn the_words_of_sort_are_read() {
         let sorting = |line| match parsed(line) {
             Ok(Words::Sort(sorting)) => sorting,
