@@ -24,7 +24,9 @@ from array import array
 from collections import namedtuple
 
 import altuliscia
-from altuliscia import MOST_PASSES, USUAL_FLOOR, Before, fit_c, fit_general, fit_nu, fit_one_class
+from altuliscia import MOST_PASSES, USUAL_FLOOR, Before
+from altuliscia_answers import signed
+from altuliscia_taken import Problem
 
 
 class Trail(namedtuple("Trail", "sample retired ceiling start steps end home fit calls")):
@@ -86,54 +88,56 @@ class Differs(RuntimeError):
         super().__init__(f"after pass {pass_} the replay and the library differ in {what}: this is a fault of Altuliscia, and no trail "
                          "is told")
 
+    def __reduce__(self):
+        return type(self), (self.pass_, self.sample)
+
 
 def trail_c(matrix, labels, cpos=1.0, cneg=1.0, *, sample, eps=1e-7, shrinking=False, budget=MOST_PASSES, retired=None,
             floor=USUAL_FLOOR):
     """The trail of one sample, by its number from 0 on, in what altuliscia.fit_c trains. What is refused there is refused here.
     Shrinking must be off: with it on, samples move. The floor must be the usual one: the pair finder has no other."""
-    marks = altuliscia._labels(labels)
-    n = len(marks)
-    gone = altuliscia._retired(retired, n)
-    kernel = altuliscia._matrix(matrix, n)
+    problem = Problem(matrix, labels, retired)
+    kernel, marks, gone, n = problem.kernel, problem.marks, problem.gone, problem.n
+    costs = altuliscia._costs(cpos, cneg, None)
 
     def fit(passes):
-        return fit_c(kernel, marks, cpos, cneg, eps=eps, budget=passes, retired=gone, floor=floor)
+        return altuliscia._fit_c(problem, costs, altuliscia._Options(eps, False, passes, floor))
 
     def replay():
         ceilings = [float(cpos if mark else cneg) for mark in marks]
         return _Replay(kernel, marks, ceilings, [0.0] * n, [-1.0] * n, eps, retired=gone)
 
-    return _trail(fit, replay, sample, shrinking, floor, budget, lambda weights, r: altuliscia._signed(weights, marks, gone))
+    return _trail(fit, replay, sample, shrinking, floor, budget, lambda weights, r: signed(weights, marks, gone))
 
 
 def trail_nu(matrix, labels, nu=0.5, *, sample, eps=1e-7, shrinking=False, budget=MOST_PASSES, floor=USUAL_FLOOR):
     """As trail_c, in what altuliscia.fit_nu trains."""
-    marks = altuliscia._labels(labels)
-    n = len(marks)
-    kernel = altuliscia._matrix(matrix, n)
+    problem = Problem(matrix, labels)
+    kernel, marks, n = problem.kernel, problem.marks, problem.n
 
     def fit(passes):
-        return fit_nu(kernel, marks, nu, eps=eps, budget=passes, floor=floor)
+        return altuliscia._fit_nu(problem, nu, altuliscia._Options(eps, False, passes, floor))
 
     def replay():
         return _Replay(kernel, marks, [1.0] * n, _shared(marks, nu), [0.0] * n, eps, nu_rule=True)
 
     def finished(weights, r):
-        return [_quotient(weight, r) for weight in altuliscia._signed(weights, marks, ())]
+        return [_quotient(weight, r) for weight in signed(weights, marks, ())]
 
     def plain(passes):
-        return fit_general(kernel, marks, [1.0] * n, _shared(marks, nu), [0.0] * n, nu_rule=True, eps=eps, budget=passes)
+        general = Problem(kernel, marks, ceilings=[1.0] * n, alphas=_shared(marks, nu), linear=[0.0] * n)
+        return altuliscia._fit_general(general, True, altuliscia._Options(eps, False, passes, floor))
 
     return _trail(fit, replay, sample, shrinking, floor, budget, finished, plain)
 
 
 def trail_one_class(matrix, nu=0.5, *, sample, n=None, eps=1e-7, shrinking=False, budget=MOST_PASSES, floor=USUAL_FLOOR):
     """As trail_c, in what altuliscia.fit_one_class trains."""
-    n = altuliscia._columns(matrix) if n is None else operator.index(n)
-    kernel = altuliscia._matrix(matrix, n)
+    problem = Problem(matrix, n=n)
+    kernel, n = problem.kernel, problem.n
 
     def fit(passes):
-        return fit_one_class(kernel, nu, n=n, eps=eps, budget=passes, floor=floor)
+        return altuliscia._fit_one_class(problem, nu, altuliscia._Options(eps, False, passes, floor))
 
     def replay():
         return _Replay(kernel, b"\1" * n, [1.0] * n, _first_ones(n, nu), [0.0] * n, eps)
@@ -144,16 +148,14 @@ def trail_one_class(matrix, nu=0.5, *, sample, n=None, eps=1e-7, shrinking=False
 def trail_general(matrix, labels, ceilings, alphas, linear, *, sample, nu_rule=False, eps=1e-7, shrinking=False, budget=MOST_PASSES,
                   retired=None, floor=USUAL_FLOOR):
     """As trail_c, in what altuliscia.fit_general trains."""
-    marks = altuliscia._labels(labels)
-    gone = altuliscia._retired(retired, len(marks))
-    kernel = altuliscia._matrix(matrix, len(marks))
-    lists = [altuliscia._doubles(given) for given in (ceilings, alphas, linear)]
+    problem = Problem(matrix, labels, retired, ceilings=ceilings, alphas=alphas, linear=linear)
 
     def fit(passes):
-        return fit_general(kernel, marks, *lists, nu_rule=nu_rule, eps=eps, budget=passes, retired=gone, floor=floor)
+        return altuliscia._fit_general(problem, nu_rule, altuliscia._Options(eps, False, passes, floor))
 
     def replay():
-        return _Replay(kernel, marks, *(list(array("d", given)) for given in lists), eps, nu_rule=nu_rule, retired=gone)
+        lists = (list(array("d", given)) for given in problem.lists.values())
+        return _Replay(problem.kernel, problem.marks, *lists, eps, nu_rule=nu_rule, retired=problem.gone)
 
     return _trail(fit, replay, sample, shrinking, floor, budget, lambda weights, r: weights)
 
@@ -163,7 +165,7 @@ def _trail(fit, replay, sample, shrinking, floor, budget, finished, plain=None):
     there, answers them undivided."""
     if shrinking:
         raise ValueError("a trail is told with shrinking off: with it on, samples move")
-    answer = fit(budget)
+    answer = fit(operator.index(budget))
     if floor != USUAL_FLOOR:
         raise ValueError("a trail is told with the usual floor, 1e-10: the pair finder has no other")
     number = _number(sample, len(answer.home))

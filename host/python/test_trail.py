@@ -11,7 +11,7 @@ import altuliscia
 import altuliscia_trail
 from altuliscia import Refusal, find_pair, fit_c, fit_general, fit_nu, fit_one_class
 from altuliscia_trail import Differs, trail_c, trail_general, trail_nu, trail_one_class
-from test_altuliscia import IDENTITY, ROOT, Problem, bits, figures, identity, read
+from test_altuliscia import IDENTITY, ROOT, Problem, bits, figures, identity, read, setUpModule, tearDownModule  # noqa: F401
 
 
 def load_tests(loader, tests, pattern):
@@ -206,12 +206,14 @@ class Wrong(unittest.TestCase):
 
     def test_library(self):
         # As if a call with a smaller budget stopped early.
-        def stopped(*given, budget, **options):
-            fit = fit_c(*given, budget=budget, **options)
-            fit.n_iter_ = fit.n_iter_ if budget == altuliscia.MOST_PASSES else [0]
+        trained = altuliscia._fit_c
+
+        def stopped(problem, costs, options):
+            fit = trained(problem, costs, options)
+            fit.n_iter_ = fit.n_iter_ if options.budget == altuliscia.MOST_PASSES else [0]
             return fit
 
-        with mock.patch("altuliscia_trail.fit_c", stopped):
+        with mock.patch("altuliscia._fit_c", stopped):
             self.assertEqual(self.noticed(), [None, 1, 1, 1])
 
     def test_undivided(self):
