@@ -259,8 +259,8 @@ def pairs(languages):
 def votes(languages, coefficients, values, rhos):
     """Which of 2 to 12 languages a caption is in, by the library's own sums and count (docs/RULE.md, 'Several languages').
 
-    coefficients   for each pair, in the order of pairs(languages), the weights of its training: `home` of a fit whose positive label is
-                   the first of the two
+    coefficients   for each pair, in the order of pairs(languages), the weights of its training: `coefficients` of a fit whose positive
+                   label is the first of the two
     values         for each pair the caption's kernel values with its samples, as many
     rhos           for each pair the rho of its training
 
@@ -282,7 +282,7 @@ def votes_of_rows(languages, coefficients, samples, rhos, rows):
     places = [[_taken.place(number) for number in given] for given in samples]
     largest = max((place for given in places for place in given), default=-1)
     found = []
-    for row in rows:
+    for row in _taken.rows(rows):
         if not hasattr(row, "__len__"):
             raise TypeError("a list of rows is needed, each with the kernel values of one caption")
         values = array("d", _taken.doubles(row))
@@ -382,17 +382,21 @@ def _direct(function, arguments):
 
 def _aside(function, arguments):
     """The call in a thread of its own, so that Ctrl-C reaches who waits for it; the call then goes on alone, to its end."""
-    answer, ended = [], _thread.allocate_lock()
+    answer, trouble, ended = [], [], _thread.allocate_lock()
 
     def run():
         try:
             answer.append(function(*arguments))
+        except BaseException as raised:
+            trouble.append(raised)
         finally:
             ended.release()
 
     ended.acquire()
     _thread.start_new_thread(run, ())
     ended.acquire()
+    if trouble:
+        raise trouble[0]
     return answer[0]
 
 

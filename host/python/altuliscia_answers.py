@@ -213,9 +213,9 @@ class Fit:
         for k in self.retired_:
             stands[k] = False
         weights = list(compress(self.coefficients, stands))
-        grid = taken.as_array(rows)
-        if grid is None or len(grid) == 0:
-            return [self._decision(row, weights, stands) for row in rows]
+        grid = taken.settled(rows)
+        if not taken.is_array(grid) or len(grid) == 0:
+            return [self._decision(row, weights, stands) for row in grid]
         if grid.ndim != 2:
             raise TypeError("a list of rows is needed, each with the kernel values of one caption")
         self._fits(grid.shape[1])

@@ -125,29 +125,33 @@ def place(number):
     return found
 
 
-def as_array(given):
-    """As an array of numpy, where it is one, or gives one as a data frame does; else None. One of Python's objects is none here."""
+def settled(given):
+    """What is an array of numpy, or gives one as a data frame does, as that array, of Python's objects as lists; all else as it is."""
     numpy = sys.modules.get("numpy")
     if hasattr(given, "toarray"):
         raise TypeError("numbers are needed one by one, not a sparse matrix: give its toarray()")
     if numpy is None or not hasattr(given, "__array__"):
-        return None
+        return given
     found = numpy.asarray(given)
     if found.dtype.kind not in "fiubO":
         raise TypeError(f"real numbers are needed, not an array of {found.dtype}")
-    return None if found.dtype.kind == "O" else found
+    return found.tolist() if found.dtype.kind == "O" else found
+
+
+def is_array(given):
+    """Whether what is settled is an array of numpy."""
+    return hasattr(given, "dtype")
 
 
 def _in_memory(given):
-    """What lies in memory, as a view of doubles, or of bytes that are a list of doubles; with other numbers than doubles, as lists; None
-    where it doesn't."""
-    found = as_array(given)
-    if found is not None and (found.ndim > 1 or found.dtype.itemsize > 1 or found.dtype.kind == "b"):
-        given = sys.modules["numpy"].ascontiguousarray(found, dtype="<f8")
+    """What lies in memory, as a view of doubles, or of bytes that are a list of doubles; all else as lists."""
+    given = settled(given)
+    if is_array(given) and (given.ndim > 1 or given.dtype.itemsize > 1 or given.dtype.kind == "b"):
+        given = sys.modules["numpy"].ascontiguousarray(given, dtype="<f8")
     try:
         view = memoryview(given)
     except TypeError:
-        return None
+        return given
     if view.format in ("d", "<d", "B", "b", "c"):
         return view
     try:
@@ -159,22 +163,22 @@ def _in_memory(given):
 def doubles(given):
     """The bytes of a list of doubles."""
     seen = _in_memory(given)
-    if isinstance(seen, memoryview):
-        return seen.tobytes()
-    return array("d", given if seen is None else seen).tobytes()
+    return seen.tobytes() if isinstance(seen, memoryview) else array("d", seen).tobytes()
+
+
+def rows(given):
+    """Rows of numbers; those of a matrix of numpy as doubles, so that none is mistaken for bytes."""
+    found = settled(given)
+    return found.astype("float64") if is_array(found) and found.ndim == 2 else found
 
 
 def columns(given):
     """How many columns a matrix has."""
     seen = _in_memory(given)
-    if isinstance(seen, memoryview):
-        flat = seen.ndim != 2
-    else:
-        given = given if seen is None else seen
-        flat = len(given) > 0 and not _in_columns(given)
+    flat = seen.ndim != 2 if isinstance(seen, memoryview) else len(seen) > 0 and not _in_columns(seen)
     if flat:
         raise ValueError("a list of columns is needed; a matrix that isn't in columns (bytes, a flat list) needs n beside it")
-    return len(given)
+    return len(seen)
 
 
 def _in_columns(given):
@@ -188,7 +192,7 @@ def matrix(given, n):
     if isinstance(seen, memoryview):
         size = "x".join(map(str, seen.shape)) if seen.ndim > 1 else f"{seen.nbytes // 8} numbers in {seen.nbytes} bytes"
         return seen.tobytes() if seen.ndim == 1 or seen.shape == (n, n) else b"", size
-    found = list(given if seen is None else seen)
+    found = list(seen)
     if not _in_columns(found):
         return doubles(found), f"{len(found)} numbers"
     lengths = [len(column) if hasattr(column, "__len__") else 1 for column in found]
