@@ -162,14 +162,19 @@ def _infeasible(problem, nu):
 
 def _judged(fit, problem):
     """The fit, with a warning for whatever is doubtful about it."""
-    found = _taken.unlike(problem.kernel, problem.n, problem.gone)
-    if found:
-        _warn(Asymmetric, "the kernel isn't symmetric: that of samples {0} and {1} isn't that of {1} and {0}".format(*found))
+    _mirrored(problem)
     if fit.above_ceiling:
         _warn(AboveCeiling, f"a weight is above its ceiling, which can't be with equal ceilings: samples {fit.above_ceiling}")
     if not fit.releasable:
         _warn(NotReleasable, f"this fit isn't to be released: {fit.unfit}")
     return fit
+
+
+def _mirrored(problem):
+    """Warns where the kernel isn't symmetric."""
+    found = _taken.unlike(problem.kernel, problem.n, problem.gone)
+    if found:
+        _warn(Asymmetric, "the kernel isn't symmetric: that of samples {0} and {1} isn't that of {1} and {0}".format(*found))
 
 
 # The fits without a warning.
@@ -218,7 +223,8 @@ def _asked(problem, name, lent, given, options, **said):
         return _called(name, problem.n, lent, given, eps, shrinking, budget, (_taken.double(floor),), gone)
     except Refusal as refusal:
         said.update(options._asdict())
-        raise Refusal(refusal.number, refusal.index, problem.told(refusal.number, refusal.index, said)) from None
+        number, index = refusal.number, refusal.index
+        raise Refusal(number, problem.index(number, index), problem.told(number, index, said)) from None
 
 
 Before = namedtuple("Before", "weight ceiling gradient diagonal")

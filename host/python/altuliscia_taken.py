@@ -46,7 +46,7 @@ def double(number):
 def labels(given):
     """The labels as bytes, and the two classes, of which the second is positive: 0 and 1, else the two that are there, in their order.
     Where numbers can't be labels, those that are neither 0 nor 1 are lent as 2, which the library refuses."""
-    marks = [_plain(mark) for mark in given]
+    marks = [plain(mark) for mark in given]
     try:
         found = set(marks)
     except TypeError:
@@ -55,16 +55,16 @@ def labels(given):
         kind = bool if found and all(type(mark) is bool for mark in marks) else int
         return bytes(map(int, marks)), [kind(0), kind(1)]
     numeric = all(isinstance(mark, numbers.Number) for mark in found)
-    if numeric and not (len(found) == 2 and all(map(_whole, found))):
+    if numeric and not (len(found) == 2 and all(map(whole, found))):
         return bytes(int(mark) if mark in (0, 1) else 2 for mark in marks), [0, 1]
-    classes = _in_order(found)
+    classes = in_order(found)
     if len(classes) != 2:
         told = "all are the same" if len(classes) == 1 else f"here are {len(classes)} (altuliscia_languages sorts up to 12)"
         raise ValueError(f"two different labels are needed, and {told}: {', '.join(map(repr, classes[:3]))}{', ..' * (len(classes) > 3)}")
     return bytes(mark == classes[1] for mark in marks), classes
 
 
-def _plain(mark):
+def plain(mark):
     """A number of numpy as Python's own."""
     if not hasattr(mark, "dtype"):
         return mark
@@ -74,20 +74,20 @@ def _plain(mark):
         raise TypeError("labels are wanted one by one: numbers or strings, no lists") from None
 
 
-def _whole(mark):
+def whole(mark):
     try:
         return int(mark) == mark
     except (TypeError, ValueError, OverflowError):
         return False
 
 
-def _in_order(found):
+def in_order(found):
     if None not in found:
         try:
             return sorted(found)
         except TypeError:
             pass
-    raise TypeError(f"labels are two whole numbers or two strings, not {' and '.join(sorted(map(repr, found))):.60}")
+    raise TypeError(f"labels are whole numbers or strings, not {' and '.join(sorted(map(repr, found))):.60}")
 
 
 def retired(given, n):
@@ -231,6 +231,14 @@ class Problem:
         self.kernel, self.size = matrix(given, self.n)
         self.lists = {name: doubles(numbers) for name, numbers in lists.items()}
 
+    def number(self, place):
+        """The number by which the caller knows the sample at that place."""
+        return place
+
+    def index(self, refusal, index):
+        """The index of a refusal, in what the caller gave."""
+        return index
+
     def lent(self):
         """The lists that each way to train is lent first."""
         return (self.kernel,) if self.marks is None else (self.kernel, self.marks)
@@ -254,7 +262,7 @@ class Problem:
         return f"{wrong[0][0]} has {wrong[0][1]:g} numbers, needs {self.n}" if wrong else None
 
     def _refusal_3(self, index, said):
-        column, row = divmod(index, self.n)
+        column, row = map(self.number, divmod(index, self.n))
         value = array("d", self.kernel)[index]
         return (f"the kernel value in column {column}, row {row} is {value!r}: finite ones up to 2^1000 in magnitude are taken; scale the "
                 "kernel down or mend that entry")
@@ -262,7 +270,7 @@ class Problem:
     def _refusal_4(self, index, said):
         kinds = len(set(self.given_labels))
         more = f"; here are {kinds} different ones, and altuliscia_languages sorts up to 12" if kinds > 2 else ""
-        return f"the label of sample {index} is {_plain(self.given_labels[index])!r:.40}: 0 and 1 are taken, or two whole numbers, or two strings{more}"
+        return f"the label of sample {index} is {plain(self.given_labels[index])!r:.40}: 0 and 1 are taken, or two whole numbers, or two strings{more}"
 
     def _refusal_5(self, index, said):
         name, value = said["costs"][index] if "costs" in said else (f"ceiling {index}", self._number("ceilings", index))

@@ -26,9 +26,9 @@ class Doubts(unittest.TestCase):
         """The answer, where exactly these kinds of warnings are told, all with the line of this file that called."""
         answer, told = warned(call)
         self.assertEqual([one.category for one in told], kinds)
-        first = inspect.getsourcelines(call)[1]
+        place = inspect.getsourcefile(call), inspect.getsourcelines(call)[1]
         for one in told:
-            self.assertEqual((one.filename, one.lineno), (__file__, first), one.message)
+            self.assertEqual((one.filename, one.lineno), place, one.message)
         return answer, [str(one.message) for one in told]
 
 

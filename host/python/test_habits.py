@@ -94,9 +94,9 @@ class Labels(unittest.TestCase):
 
     def test_bad(self):
         for labels, kind, text in (
-            ([1, "1"], TypeError, "labels are two whole numbers or two strings, not '1' and 1"),
-            ([1, None], TypeError, "labels are two whole numbers or two strings, not 1 and None"),
-            ([None, None], TypeError, "labels are two whole numbers or two strings, not None"),
+            ([1, "1"], TypeError, "labels are whole numbers or strings, not '1' and 1"),
+            ([1, None], TypeError, "labels are whole numbers or strings, not 1 and None"),
+            ([None, None], TypeError, "labels are whole numbers or strings, not None"),
             ([[1], [0]], TypeError, "labels are wanted one by one: numbers or strings, no lists"),
             (["a", "a"], ValueError, "two different labels are needed, and all are the same: 'a'"),
         ):
