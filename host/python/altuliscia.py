@@ -365,9 +365,15 @@ def _called(name, n, lent, given, eps, shrinking, budget, late=(), gone=()):
     results = []
     for buffer, size in zip(written, (room, room, _ANSWER_BYTES)):
         results += [buffer, ctypes.c_size_t(size)]
-    options = (_bits(eps), _flag(shrinking), ctypes.c_uint64(budget))
-    arguments = (ctypes.c_size_t(n), *_slices(lent), *given, *options, *_slices(late), *results)
-    refusal = (_aside if _long(n, budget) else _direct)(_function(name), arguments)
+
+    def run(call, passes):
+        options = (_bits(eps), _flag(shrinking), ctypes.c_uint64(passes))
+        return call(_function(name), (ctypes.c_size_t(n), *_slices(lent), *given, *options, *_slices(late), *results))
+
+    if _long(n, budget):
+        refusal = _patiently(run, n, budget, written[2], not shrinking and name != "altuliscia_retired")
+    else:
+        refusal = run(_direct, budget)
     _, index, rho, has_r, r, obj, iterations, reason, support = _ANSWER.unpack_from(written[2])
     if refusal:
         raise Refusal(refusal, index)
@@ -375,11 +381,31 @@ def _called(name, n, lent, given, eps, shrinking, budget, late=(), gone=()):
     return home, crate_reading, rho, r if has_r else None, obj, iterations, reason, sorted(gone), support
 
 
+def _patiently(run, n, budget, answer, prefix):
+    """A call that may be long. Most runs end soon, and where a run with a smaller budget is the beginning of this one, which `prefix` says,
+    one that ends at the threshold is this one (docs/PROMISES.md, 'Where does this weight come from?')."""
+    if prefix:
+        refusal = run(_direct, _soon(n))
+        if refusal or _ANSWER.unpack_from(answer)[7] == 0:
+            return refusal
+    return run(_aside, budget)
+
+
 def _long(n, budget):
-    """Whether a call may take longer than Ctrl-C should wait. A pass took 50 + 1.4n ns where it was measured (x86-64)."""
+    """Whether a call may take longer than Ctrl-C should wait, half a second."""
     # Only the main thread is told of signals. A thread of less stack than a call needs, with room for Python, isn't started.
     waits = threading.current_thread() is threading.main_thread() and not 0 < threading.stack_size() < 1 << 18
-    return waits and min(budget, MOST_PASSES) * (50 + 1.4 * n) > 5e8
+    return waits and budget <= MOST_PASSES and budget * _pass_time(n) > 5e8
+
+
+def _soon(n):
+    """As many passes as take about as long as it does to start a thread and wait for it."""
+    return int(2e5 / _pass_time(n))
+
+
+def _pass_time(n):
+    """About as many nanoseconds as a pass took where it was measured (x86-64)."""
+    return 50 + 1.4 * n
 
 
 def _direct(function, arguments):

@@ -4,7 +4,9 @@ import sys
 import warnings
 from array import array
 from collections import namedtuple
+from functools import reduce
 from itertools import compress
+from operator import add, mul
 
 import altuliscia_taken as taken
 
@@ -233,10 +235,8 @@ class Fit:
         if not hasattr(row, "__len__"):
             raise TypeError("a list of rows is needed, each with the kernel values of one caption")
         self._fits(len(row))
-        total = 0.0
-        for weight, value in zip(weights, array("d", list(compress(row, stands)))):
-            total += weight * value
-        return total - self.rho
+        values = array("d", list(compress(row, stands) if self.retired_ else row))
+        return reduce(add, map(mul, weights, values), 0.0) - self.rho
 
     def _by_columns(self, columns, weights, count):
         """The same sums for so many rows at once, a sample after the other: each product and each addition is rounded once."""

@@ -340,13 +340,32 @@ class Interrupted(unittest.TestCase):
             child.wait()
 
     def test_which_calls(self):
-        # What ends within a second or so is called directly.
-        self.assertEqual([altuliscia._long(*call) for call in ((2, 1000), (512, 1000), (512, 10_000_000), (100, 10_000_000))], [False, False, True, True])
-        with mock.patch("altuliscia._aside", side_effect=AssertionError):
-            fit_c(identity(100), [1, 0] * 50, budget=1000)
-        plain = fit_c(identity(100), [1, 0] * 50, budget=1000)
-        with mock.patch("altuliscia._direct", side_effect=AssertionError):
-            self.assertEqual(told(fit_c(identity(100), [1, 0] * 50)), told(plain))
+        def ways(*given, **options):
+            """How the library was called, and the answer."""
+            with mock.patch("altuliscia._direct", wraps=altuliscia._direct) as direct, mock.patch("altuliscia._aside", wraps=altuliscia._aside) as aside:
+                fit = fit_c(*given, **options)
+            return (direct.call_count, aside.call_count), told(fit)
+
+        short = identity(100), [1, 0] * 50
+        draw = random.Random(6)
+        points = [[draw.gauss(0, 1) for _ in range(2)] for _ in range(100)]
+        long = [[sum(map(lambda x, y: x * y, one, other)) for other in points] for one in points], [draw.randint(0, 1) for _ in range(100)]
+        self.assertGreater(fit_c(*long, C=1e3).n_iter_[0], altuliscia._soon(100))
+        few = {"budget": 100_000}
+        for given, options, calls in (
+            (short, few, (1, 0)), (short, {}, (1, 0)), (long, {"C": 1e3, **few}, (1, 0)), (long, {"C": 1e3}, (1, 1)),
+            (short, {"shrinking": True}, (0, 1)), (long, {"retired": [0]}, (1, 1)), (short, {"retired": [0], **few}, (2, 0)),
+        ):
+            found, answer = ways(*given, **options)
+            self.assertEqual(found, calls)
+            # The answer is that of a single call.
+            with mock.patch("altuliscia._long", return_value=False):
+                self.assertEqual(answer, told(fit_c(*given, **options)))
+
+    def test_limits(self):
+        given = ((2, 1000), (512, 1000), (2, 10_000_000), (512, 10_000_000), (100, 10_000_000), (512, 10_000_001), (512, 0))
+        self.assertEqual([altuliscia._long(*one) for one in given], [False, False, True, True, True, False, False])
+        self.assertEqual([altuliscia._soon(n) > 100 for n in (1, 512)], [True, True])
 
     def test_other_threads(self):
         # Signals don't reach another thread, so nothing waits aside there.
