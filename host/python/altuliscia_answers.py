@@ -4,9 +4,7 @@ import sys
 import warnings
 from array import array
 from collections import namedtuple
-from functools import reduce
 from itertools import compress
-from operator import add, mul
 
 import altuliscia_taken as taken
 
@@ -235,8 +233,13 @@ class Fit:
         if not hasattr(row, "__len__"):
             raise TypeError("a list of rows is needed, each with the kernel values of one caption")
         self._fits(len(row))
-        values = array("d", list(compress(row, stands) if self.retired_ else row))
-        return reduce(add, map(mul, weights, values), 0.0) - self.rho
+        values = list(compress(row, stands)) if self.retired_ else row
+        try:
+            total = _sum(weights, values)
+        except TypeError:
+            total = None
+        # Other numbers than Python's own are made doubles first: numpy's float32 would round the sum.
+        return (total if type(total) is float else _sum(weights, array("d", list(values)))) - self.rho
 
     def _by_columns(self, columns, weights, count):
         """The same sums for so many rows at once, a sample after the other: each product and each addition is rounded once."""
@@ -255,6 +258,14 @@ class Fit:
     def score(self, rows, labels):
         """The share of rows that `predict` gives their label."""
         return share(self.predict(rows), labels, self.classes_)
+
+
+def _sum(weights, values):
+    """In their order, from +0, each product and each addition rounded once."""
+    total = 0.0
+    for weight, value in zip(weights, values):
+        total += weight * value
+    return total
 
 
 def signed(weights, marks, gone):

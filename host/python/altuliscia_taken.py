@@ -207,9 +207,10 @@ def unlike(kernel, n, gone=()):
     Retired samples have no say."""
     values = array("d", kernel)
     for c in range(n):
-        if c in gone or values[c * n:(c + 1) * n].tobytes() == values[c::n].tobytes():
+        # Down the column from the diagonal on, and along the row.
+        if c in gone or values[c * n + c:(c + 1) * n].tobytes() == values[c * n + c::n].tobytes():
             continue
-        for r in range(n):
+        for r in range(c + 1, n):
             x, y = values[c * n + r], values[r * n + c]
             if r not in gone and abs(x - y) > 1e-6 * max(abs(x), abs(y), abs(values[c * n + c]), abs(values[r * n + r])):
                 return c, r

@@ -236,6 +236,11 @@ class Arrays(unittest.TestCase):
         for kind in ("float32", "int64", "uint8", "int32", "object"):
             self.assertEqual(fit.decision_function(grid.astype(kind)), plain)
         self.assertEqual(fit.decision_function(list(grid.astype("float32"))), plain)
+        # Lists of numpy's numbers, which may round where they are multiplied.
+        for kind in (numpy.float32, numpy.float16, numpy.int8, numpy.longdouble):
+            found = fit.decision_function([[kind(value) for value in (1, 2, 3, 4)], [1, 2.5, kind(3), 4]])
+            self.assertEqual(found, fit.decision_function([[1, 2, 3, 4], [1, 2.5, 3, 4]]))
+            self.assertEqual([type(one) for one in found], [float] * 2)
         for bad, kind in ((grid[0], TypeError), (grid[None], TypeError), (grid[:, :3], ValueError), (grid.astype(complex), TypeError)):
             with self.assertRaises(kind):
                 fit.decision_function(bad)
