@@ -14,8 +14,13 @@ target, else in target/native, else in target/staticlib. Nothing but Python's st
     >>> fit = altuliscia.fit_c([[1, 0], [0, 1]], [1, 0])
     >>> fit.support_, fit.dual_coef_, fit.intercept_, fit.n_iter_, fit.fit_status_
     ([0, 1], [[1.0, -1.0]], [0.0], [1], 0)
-    >>> fit.decision_function([[0.75, 0.25]])
-    [0.5]
+    >>> fit.decision_function([[0.75, 0.25]]), fit.predict([[0.75, 0.25]]), fit.releasable
+    ([0.5], [1], True)
+
+What is refused is told by a Refusal, which is a ValueError; what is no number at all, by a TypeError. What is answered and shouldn't be
+used without a second look warns, by a Doubtful: a fit that isn't `releasable` (its `unfit` says why), an infeasible nu, a kernel that
+isn't symmetric, a cost given for one class alone, a weight above its ceiling.
+
     >>> altuliscia.fit_c([[1, 0], [float("nan"), 1]], [1, 0])
     Traceback (most recent call last):
         ...
@@ -30,10 +35,11 @@ A sample whose caption was withdrawn is retired: the others are trained without 
     >>> fit.decision_function([[0.75, float("nan"), 0.25]])
     [0.5]
 
-A kernel matrix is a list of n columns of n numbers each, or an object that holds its bytes: column by column, eight bytes for each
-double (array.array("d"), bytes, a float64 array of numpy, whose rows are taken as columns). It need not be symmetric. Labels are
-1 (positive) and 0 (negative). What is refused is told by a Refusal, which is a ValueError; what is no number at all, by a TypeError.
-Retired numbers that can't be right are told by a TypeError or a plain ValueError, before anything is refused.
+A kernel matrix is a list of n columns of n numbers each, an array of numpy, whose rows are taken as columns, or an object that holds its
+bytes: column by column, eight bytes for each double (array.array("d"), bytes). It need not be symmetric, but one that isn't warns. Labels
+are 1 (positive) and 0 (negative), or any two whole numbers or strings: the second in their order is positive, as in scikit-learn. `C`,
+`tol` and `max_iter` are scikit-learn's names of `cpos` and `cneg` in one, `eps` and `budget`. Retired numbers that can't be right are told
+by a TypeError or a plain ValueError, before anything is refused.
 
 Where the curvature of a pair isn't above 0, `floor` stands for it. Two samples with the same kernel values and different labels are
 such a pair, and a smaller floor takes longer steps along it:
@@ -41,10 +47,14 @@ such a pair, and a smaller floor takes longer steps along it:
     >>> [altuliscia.fit_c([[1, 1], [1, 1]], [1, 0], 1e12, 1e12, floor=floor).n_iter_ for floor in (1e-10, 1e-12)]
     [[50], [1]]
 
-Where a weight came from: altuliscia_trail has the steps that a sample went through, and find_pair is one step by itself.
+Ctrl-C doesn't wait for the end of a long call from the main thread: that goes on by itself, in a thread, for at most `budget` passes.
 
-Several languages: for each two of 2 to 12 languages there is a training, and each votes for one of its two. Here one caption of each of
-three languages is trained on, and two others are sorted, by their kernel values with the three:
+Where a weight came from: altuliscia_trail has the steps that a sample went through, and find_pair is one step by itself.
+altuliscia_sklearn has a classifier for scikit-learn.
+
+Several languages: for each two of 2 to 12 languages there is a training, and each votes for one of its two. altuliscia_languages trains them
+all out of one matrix. By hand, with one caption of each of three languages to train on, and two others to sort by their kernel values
+with the three:
 
     >>> fits = [altuliscia.fit_c([[1, 0], [0, 1]], [1, 0]) for _ in altuliscia.pairs(3)]
     >>> homes, rhos = [fit.home for fit in fits], [fit.rho for fit in fits]

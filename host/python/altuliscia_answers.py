@@ -105,7 +105,7 @@ class AboveCeiling(Doubtful):
     __module__ = "altuliscia"
 
 
-_OWN = {"altuliscia", "altuliscia_answers", "altuliscia_languages", "altuliscia_sklearn"}
+_OWN = {"altuliscia", "altuliscia_answers", "altuliscia_languages", "altuliscia_sklearn", "altuliscia_trail"}
 
 
 def warn(kind, words):

@@ -24,12 +24,12 @@ from itertools import combinations
 
 import altuliscia
 import altuliscia_taken as taken
-from altuliscia import MOST_LANGUAGES, USUAL_FLOOR, InfeasibleNu, NotReleasable, Refusal
+from altuliscia import _EPS, _PASSES, MOST_LANGUAGES, USUAL_FLOOR, InfeasibleNu, NotReleasable, Refusal
 from altuliscia_answers import share, warn
 
 
-def fit_languages(matrix, labels, C=None, *, nu=None, languages=None, retired=None, eps=altuliscia._EPS, shrinking=False,
-                  budget=altuliscia._PASSES, floor=USUAL_FLOOR, tol=None, max_iter=None):
+def fit_languages(matrix, labels, C=None, *, nu=None, languages=None, retired=None, eps=_EPS, shrinking=False, budget=_PASSES,
+                  floor=USUAL_FLOOR, tol=None, max_iter=None):
     """Trains each two of 2 to 12 languages; answers a Sorter.
 
     matrix      the kernel values of all samples with each other. There may be more than 512: a pair has at most that many

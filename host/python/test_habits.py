@@ -168,7 +168,7 @@ class Numbers(unittest.TestCase):
         for given, text in (
             (Sparse(), "numbers are needed one by one, not a sparse matrix: give its toarray()"),
             ([[1, "0"], [0, 1]], "must be real number, not str"),
-            ([[1, 1j], [0, 1]], "must be real number, not complex"),
+            ([[1, 1j], [0, 1]], "complex"),
         ):
             with self.assertRaises(TypeError) as caught:
                 fit_c(given, [1, 0])
@@ -278,6 +278,8 @@ class Pickles(unittest.TestCase):
         for one in (Refusal(3, 7), Refusal(2, 0, "matrix is 64x5, needs 64x64"), NoVotes(1, 0), NoVotes(2, 1, "told"), Differs(4, None), Differs(4, 2)):
             for back in (pickle.loads(pickle.dumps(one)), copy.copy(one), copy.deepcopy(one)):
                 self.assertEqual((type(back), str(back), vars(back)), (type(one), str(one), vars(one)))
+        found = counted(2)
+        self.assertEqual(pickle.loads(pickle.dumps(found)), found)
         general = fit_general(LINE, SIDES, [1, 2, 1, 1], [0] * 4, [-1] * 4, retired=[0])
         for fit in (fit_c(LINE, SIDES, retired=[1]), fit_nu(LINE, SIDES, 0.3), fit_one_class(LINE), general, fit_c(LINE, ["b", "b", "a", "a"])):
             for protocol in range(2, pickle.HIGHEST_PROTOCOL + 1):

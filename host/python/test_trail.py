@@ -216,6 +216,18 @@ class Wrong(unittest.TestCase):
         with mock.patch("altuliscia._fit_c", stopped):
             self.assertEqual(self.noticed(), [None, 1, 1, 1])
 
+    def test_names(self):
+        """The other names of altuliscia.fit_c, and that a cost of one class alone warns here, too."""
+        matrix = [[2.0, 1.0, 0.5], [1.0, 2.0, 0.25], [0.5, 0.25, 2.0]]
+        plain = trail_c(matrix, [1, 0, 1], 0.5, 0.5, sample=1, eps=1e-3, budget=4)
+        named = trail_c(matrix, ["b", "a", "b"], sample=1, C=0.5, tol=1e-3, max_iter=4)
+        self.assertEqual(named[:-2], plain[:-2])
+        with self.assertWarns(altuliscia.OneCost) as caught:
+            trail_c(matrix, [1, 0, 1], 10.0, sample=1)
+        self.assertEqual(os.path.basename(caught.filename), "test_trail.py")
+        with self.assertRaises(TypeError):
+            trail_c(matrix, [1, 0, 1], 10.0, sample=1, C=1.0)
+
     def test_undivided(self):
         # r is infinite, so every weight is answered as 0.
         one = trail_nu(IDENTITY, [1, 0], 1.0, sample=0)
