@@ -233,7 +233,8 @@ class Fit:
         if not hasattr(row, "__len__"):
             raise TypeError("a list of rows is needed, each with the kernel values of one caption")
         self._fits(len(row))
-        values = list(compress(row, stands)) if self.retired_ else row
+        values = row.tolist() if taken.is_array(row) else row
+        values = list(compress(values, stands)) if self.retired_ else values
         try:
             total = _sum(weights, values)
         except TypeError:

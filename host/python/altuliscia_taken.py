@@ -207,12 +207,12 @@ def unlike(kernel, n, gone=()):
     Retired samples have no say."""
     values = array("d", kernel)
     for c in range(n):
-        # Down the column from the diagonal on, and along the row.
-        if c in gone or values[c * n + c:(c + 1) * n].tobytes() == values[c * n + c::n].tobytes():
+        # From the diagonal on, down the column and along the row.
+        column, row = values[c * n + c:(c + 1) * n], values[c * n + c::n]
+        if c in gone or column.tobytes() == row.tobytes() or max(map(abs, map(operator.sub, column, row))) <= 1e-6 * abs(column[0]):
             continue
-        for r in range(c + 1, n):
-            x, y = values[c * n + r], values[r * n + c]
-            if r not in gone and abs(x - y) > 1e-6 * max(abs(x), abs(y), abs(values[c * n + c]), abs(values[r * n + r])):
+        for r, (x, y) in enumerate(zip(column, row), c):
+            if x != y and r not in gone and abs(x - y) > 1e-6 * max(abs(x), abs(y), abs(column[0]), abs(values[r * n + r])):
                 return c, r
     return None
 
@@ -225,7 +225,7 @@ class Problem:
             self.given_labels, self.marks, self.classes = None, None, [-1, 1]
             self.n = columns(given) if n is None else operator.index(n)
         else:
-            self.given_labels = list(marks)
+            self.given_labels = [plain(mark) for mark in marks]
             self.marks, self.classes = labels(self.given_labels)
             self.n = len(self.marks)
         self.gone = retired(gone, self.n)
@@ -271,7 +271,7 @@ class Problem:
     def _refusal_4(self, index, said):
         kinds = len(set(self.given_labels))
         more = f"; here are {kinds} different ones, and altuliscia_languages sorts up to 12" if kinds > 2 else ""
-        return f"the label of sample {index} is {plain(self.given_labels[index])!r:.40}: 0 and 1 are taken, or two whole numbers, or two strings{more}"
+        return f"the label of sample {index} is {self.given_labels[index]!r:.40}: 0 and 1 are taken, or two whole numbers, or two strings{more}"
 
     def _refusal_5(self, index, said):
         name, value = said["costs"][index] if "costs" in said else (f"ceiling {index}", self._number("ceilings", index))

@@ -14,6 +14,7 @@ import unittest
 from array import array
 from decimal import Decimal
 from fractions import Fraction
+from functools import partial
 from unittest import mock
 
 import altuliscia
@@ -210,6 +211,9 @@ class Arrays(unittest.TestCase):
         self.assertEqual(told(fit_c(LINE, numpy.array(SIDES)[:, None])), plain)
         with self.assertRaises(TypeError):
             fit_c(LINE, numpy.array([SIDES, SIDES]).T)
+        with self.assertRaises(Refusal) as caught:
+            fit_c(IDENTITY, numpy.array([[1], [0.5]]))
+        self.assertIn("the label of sample 1 is 0.5: ", str(caught.exception))
 
     def test_decisions(self):
         """To the bit, whatever the numbers."""
@@ -368,6 +372,22 @@ class Interrupted(unittest.TestCase):
             # The answer is that of a single call.
             with mock.patch("altuliscia._long", return_value=False):
                 self.assertEqual(answer, told(fit_c(*given, **options)))
+
+    def test_a_run_that_ended(self):
+        """One that ends at the threshold is the same with any budget above its steps: so a smaller budget may be tried first."""
+        draw, ended = random.Random(12), 0
+        for _ in range(150):
+            problem = Problem(draw, draw.randint(2, 8))
+            options = {"floor": draw.choice((1e-10, 1e-3)), "eps": draw.choice((1e-7, 1e-2))}
+            for fit, given in (
+                (fit_c, (problem.matrix, problem.labels, 2.0, 0.75)), (fit_nu, (problem.matrix, problem.labels, 0.4)), (fit_one_class, (problem.matrix,)),
+                *((partial(fit_general, nu_rule=rule), (problem.matrix, *problem.lists())) for rule in (False, True)),
+            ):
+                long = fit(*given, budget=2000, **options)
+                if long.fit_status_ == 0:
+                    self.assertEqual(told(fit(*given, budget=long.n_iter_[0] + 1, **options)), told(long))
+                    ended += long.n_iter_[0] > 1
+        self.assertGreater(ended, 250)
 
     def test_limits(self):
         given = ((2, 1000), (512, 1000), (2, 10_000_000), (512, 10_000_000), (100, 10_000_000), (512, 10_000_001), (512, 0))
