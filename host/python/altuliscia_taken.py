@@ -258,7 +258,7 @@ class Problem:
 
     def _refusal_2(self, index, said):
         if len(self.kernel) != 8 * self.n * self.n:
-            return f"matrix is {self.size}, needs {self.n}x{self.n}"
+            return f"matrix is {self.size}, needs {self.n}x{self.n}" + (f": there are {self.n} labels" if self.marks is not None else "")
         wrong = [(name, len(held) / 8) for name, held in self.lists.items() if len(held) != 8 * self.n]
         return f"{wrong[0][0]} has {wrong[0][1]:g} numbers, needs {self.n}" if wrong else None
 
@@ -270,7 +270,7 @@ class Problem:
 
     def _refusal_4(self, index, said):
         kinds = len(set(self.given_labels))
-        more = f"; here are {kinds} different ones, and altuliscia_languages sorts up to 12" if kinds > 2 else ""
+        more = (f"; here are {kinds} different ones" if kinds > 2 else "") + (", and altuliscia_languages sorts up to 12" if 2 < kinds < 13 else "")
         return f"the label of sample {index} is {self.given_labels[index]!r:.40}: 0 and 1 are taken, or two whole numbers, or two strings{more}"
 
     def _refusal_5(self, index, said):

@@ -1,11 +1,13 @@
 """Tests that nothing wrong goes by in silence: what isn't to be released, what warns and names the caller's line, the words of refusals."""
 import inspect
 import math
+import random
 import unittest
 import warnings
 from array import array
 
 from altuliscia import AboveCeiling, Asymmetric, Doubtful, Fit, InfeasibleNu, NotReleasable, OneCost, Refusal, fit_c, fit_general, fit_nu, fit_one_class
+from altuliscia_taken import unlike
 from test_altuliscia import IDENTITY, identity
 
 # Four samples on a line, which take some steps.
@@ -136,6 +138,23 @@ class Told(Doubts):
         self.warns([Asymmetric], lambda: fit_c(spoilt(1), SIDES, retired=[3]))
         self.warns([], lambda: fit_c([[1, -0.0], [0.0, 1]], [1, 0]))
 
+    def test_symmetry_drawn(self):
+        """Beside the same question, asked of each pair."""
+        draw, found = random.Random(3), 0
+        for _ in range(1000):
+            n = draw.randint(1, 6)
+            matrix = [[float((c - r) ** 2 % 7) for r in range(n)] for c in range(n)]
+            for _ in range(draw.randint(0, 3)):
+                matrix[draw.randrange(n)][draw.randrange(n)] += draw.choice((1e-9, 1e-7, 1e-6, 2e-6, -1e-5, 1.0))
+            gone = set(draw.sample(range(n), draw.randint(0, n)))
+            stand = [k for k in range(n) if k not in gone]
+            parted = {(c, r) for c in stand for r in stand if abs(matrix[c][r] - matrix[r][c]) > 1e-6 * max(
+                abs(matrix[i][j]) for i in (c, r) for j in (c, r))}
+            told = unlike(array("d", sum(matrix, [])).tobytes(), n, gone)
+            self.assertTrue(told in parted if parted else told is None)
+            found += bool(parted)
+        self.assertTrue(100 < found < 900, found)
+
     def test_one_cost(self):
         fit, told = self.warns([OneCost], lambda: fit_c(LINE, SIDES, 10.0))
         self.assertEqual(told, ["cpos is 10.0 and cneg isn't given, so it is 1.0: give both, or C=10.0 for both classes"])
@@ -182,11 +201,12 @@ class Words(unittest.TestCase):
         self.told(1, "there are 0 samples: give 1 to 512", fit_c, [], [])
         self.told(1, "there are 513 samples: give 1 to 512", fit_c, identity(513), [1] * 513)
         self.told(1, "there are -1 samples: give 1 to 512", fit_one_class, IDENTITY, n=-1)
-        self.told(2, "matrix is 64x5, needs 64x64", fit_c, [[0] * 5] * 64, [1] * 64)
-        self.told(2, "matrix is 2 columns of 1 to 3 numbers, needs 2x2", fit_c, [[1, 0, 0], [1]], y)
-        self.told(2, "matrix is 3 numbers, needs 2x2", fit_c, [1, 0, 0], y)
-        self.told(2, "matrix is 3 numbers in 31 bytes, needs 2x2", fit_c, bytes(31), y)
-        self.told(2, "matrix is 1x4, needs 2x2", fit_c, memoryview(bytes(32)).cast("d", (1, 4)), y)
+        self.told(2, "matrix is 64x5, needs 64x64: there are 64 labels", fit_c, [[0] * 5] * 64, [1] * 64)
+        self.told(2, "matrix is 2 columns of 1 to 3 numbers, needs 2x2: there are 2 labels", fit_c, [[1, 0, 0], [1]], y)
+        self.told(2, "matrix is 3 numbers, needs 2x2: there are 2 labels", fit_c, [1, 0, 0], y)
+        self.told(2, "matrix is 3 numbers in 31 bytes, needs 2x2: there are 2 labels", fit_c, bytes(31), y)
+        self.told(2, "matrix is 1x4, needs 2x2: there are 2 labels", fit_c, memoryview(bytes(32)).cast("d", (1, 4)), y)
+        self.told(2, "matrix is 2x2, needs 3x3", fit_one_class, IDENTITY, n=3)
         self.told(2, "alphas has 3 numbers, needs 2", fit_general, IDENTITY, y, [1, 1], [0] * 3, [0, 0])
         self.told(2, "linear has 0.125 numbers, needs 2", fit_general, IDENTITY, y, [1, 1], [0, 0], b"\0")
 
@@ -198,6 +218,7 @@ class Words(unittest.TestCase):
         self.told(4, f"the label of sample 1 is 0.5: {pair}", fit_c, IDENTITY, [1, 0.5])
         more = "; here are 3 different ones, and altuliscia_languages sorts up to 12"
         self.told(4, f"the label of sample 2 is 7: {pair}{more}", fit_c, identity(3), [1, 0, 7])
+        self.told(4, f"the label of sample 2 is 2: {pair}; here are 13 different ones", fit_c, identity(13), range(13))
         for name, given, value in (("cpos", (0.0, 1.0), 0.0), ("cneg", (1.0, math.nan), math.nan)):
             self.told(5, f"{name} is {value}: a ceiling is above 0 and at most 2^1000", fit_c, IDENTITY, y, *given)
         self.told(5, "C is -1: a ceiling is above 0 and at most 2^1000", fit_c, IDENTITY, y, C=-1)
