@@ -147,17 +147,16 @@ class Sorter:
         """The Votes on each row, the kernel values of one caption with every sample of the matrix. The number k of a language is that of
         classes_[k - 1]. A value at a retired sample's place is passed over."""
         gone = set(self.retired_)
-        kept = [[place for place, k in enumerate(numbers) if k not in gone] for numbers in self.samples]
-        coefficients = [[fit.coefficients[place] for place in places] for fit, places in zip(self.fits, kept)]
-        samples = [[numbers[place] for place in places] for numbers, places in zip(self.samples, kept)]
         lent = [self._row(row, gone) for row in taken.rows(rows)]
-        return altuliscia.votes_of_rows(len(self.classes_), coefficients, samples, [fit.rho for fit in self.fits], lent)
+        coefficients, rhos = [fit.coefficients for fit in self.fits], [fit.rho for fit in self.fits]
+        return altuliscia.votes_of_rows(len(self.classes_), coefficients, self.samples, rhos, lent)
 
     def _row(self, row, gone):
         if not hasattr(row, "__len__"):
             raise TypeError("a list of rows is needed, each with the kernel values of one caption")
         if len(row) != self.n_samples:
             raise ValueError(f"a row has {len(row)} kernel values for {self.n_samples} training samples")
+        # A retired sample has the weight 0.
         return [0.0 if k in gone else value for k, value in enumerate(row)] if gone else row
 
     def predict(self, rows):

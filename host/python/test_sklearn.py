@@ -89,6 +89,13 @@ class Compared(unittest.TestCase):
         self.assertEqual(ours.decision_function(rows).tolist(), [one.votes for one in plain.votes(rows)])
 
 
+    def test_edge(self):
+        trained = AltulisciaSVC().fit(numpy.identity(2), ["a", "b"])
+        rows = [[0.0, 0.0], [5e-324, 0.0], [0.0, 5e-324]]
+        self.assertEqual(trained.decision_function(rows).tolist(), [0.0, -5e-324, 5e-324])
+        self.assertEqual(trained.predict(rows).tolist(), ["b", "a", "b"])
+
+
 class Used(Doubts):
     def test_in_scikit_learn(self):
         kernel, y, rows, _ = drawn(3)
