@@ -55,6 +55,9 @@ class AltulisciaSVC(ClassifierMixin, BaseEstimator):
         """Trains; X has the kernel values of all samples with each other, y their classes."""
         if self.kernel != "precomputed":
             raise ValueError(f"kernel is {self.kernel!r}, and only 'precomputed' is here: make the matrix by sklearn.metrics.pairwise, say")
+        missing = [name for name in ("C", "tol", "max_iter") if getattr(self, name) is None]
+        if missing:
+            raise ValueError(f"{missing[0]} is None: give a number")
         X, y = self._validate_data(X, y, dtype=numpy.float64)
         check_classification_targets(y)
         self.classes_, codes = numpy.unique(y, return_inverse=True)

@@ -314,6 +314,15 @@ class Pickles(unittest.TestCase):
             self.assertEqual(caught.exception.number, 1)
 
 
+class Alone(unittest.TestCase):
+    def test_nothing_else_is_loaded(self):
+        """numpy is used where the caller has it, and never loaded."""
+        here = os.path.dirname(os.path.abspath(altuliscia.__file__))
+        code = (f"import sys; sys.path.insert(0, {here!r}); import altuliscia, altuliscia_languages, altuliscia_trail; "
+                "altuliscia.fit_c([[1, 0], [0, 1]], [1, 0]).predict([[1, 0]]); print('numpy' in sys.modules)")
+        self.assertEqual(subprocess.check_output([sys.executable, "-B", "-c", code], universal_newlines=True), "False\n")
+
+
 SLOW = """
 import sys, warnings
 sys.path.insert(0, {here!r})

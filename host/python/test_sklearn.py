@@ -128,6 +128,8 @@ class Used(Doubts):
             ({"C": -1.0}, (kernel, y), Refusal, "C is -1.0: a ceiling is above 0"),
             ({"tol": -1.0}, (kernel, y), Refusal, "eps (tol) is -1.0"),
             ({"max_iter": 0}, (kernel, y), Refusal, "budget (max_iter) is 0"),
+            ({"C": None}, (kernel, y), ValueError, "C is None: give a number"),
+            ({"max_iter": None}, (kernel, y), ValueError, "max_iter is None: give a number"),
             ({"C": "x"}, (kernel, y), TypeError, "a double is needed, not 'x'"),
         ):
             with self.assertRaises(kind) as caught:
