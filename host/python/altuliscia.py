@@ -184,7 +184,7 @@ def _mirrored(problem):
     """Warns where the kernel isn't symmetric."""
     found = _taken.unlike(problem.kernel, problem.n, problem.gone)
     if found:
-        _warn(Asymmetric, "the kernel isn't symmetric: that of samples {0} and {1} isn't that of {1} and {0}".format(*found))
+        _warn(Asymmetric, "the kernel isn't symmetric: column {0}, row {1} is {2!r}, and column {1}, row {0} is {3!r}".format(*found))
 
 
 # The fits without a warning.

@@ -203,8 +203,8 @@ def matrix(given, n):
 
 
 def unlike(kernel, n, gone=()):
-    """Column and row of a kernel value that isn't its mirror's by more than rounding, of single precision too; None where there is none.
-    Retired samples have no say."""
+    """Column and row of a kernel value that isn't its mirror's by more than rounding, of single precision too, and the two values; None
+    where there is none. Retired samples have no say."""
     values = array("d", kernel)
     for c in range(n):
         # From the diagonal on, down the column and along the row.
@@ -213,7 +213,7 @@ def unlike(kernel, n, gone=()):
             continue
         for r, (x, y) in enumerate(zip(column, row), c):
             if x != y and r not in gone and abs(x - y) > 1e-6 * max(abs(x), abs(y), abs(column[0]), abs(values[r * n + r])):
-                return c, r
+                return c, r, x, y
     return None
 
 

@@ -126,7 +126,8 @@ class Told(Doubts):
             self.warns([], lambda: fit_c(spoilt(by), SIDES))
         for by in (1.1e-5, -1.1e-5, 3.0):
             _, told = self.warns([Asymmetric], lambda: fit_c(spoilt(by), SIDES))
-            self.assertEqual(told, ["the kernel isn't symmetric: that of samples 1 and 2 isn't that of 2 and 1"])
+            mirror = f"column 1, row 2 is 7.0, and column 2, row 1 is {7.0 + by!r}"
+            self.assertEqual(told, [f"the kernel isn't symmetric: {mirror}"])
         given = [1] * 4, [0] * 4, [-1] * 4
         self.warns([Asymmetric], lambda: fit_nu(spoilt(1e-3), SIDES, 0.3))
         self.warns([Asymmetric], lambda: fit_one_class(spoilt(1)))
@@ -151,7 +152,7 @@ class Told(Doubts):
             parted = {(c, r) for c in stand for r in stand if abs(matrix[c][r] - matrix[r][c]) > 1e-6 * max(
                 abs(matrix[i][j]) for i in (c, r) for j in (c, r))}
             told = unlike(array("d", sum(matrix, [])).tobytes(), n, gone)
-            self.assertTrue(told in parted if parted else told is None)
+            self.assertTrue(told[:2] in parted and told[2:] == (matrix[told[0]][told[1]], matrix[told[1]][told[0]]) if parted else told is None)
             found += bool(parted)
         self.assertTrue(100 < found < 900, found)
 
