@@ -40,10 +40,10 @@ def fit_languages(matrix, labels, C=None, *, nu=None, languages=None, retired=No
 
     A pair has its two languages' samples in the matrix's order, the first language positive. What is refused of a pair is refused of all,
     by the same number. For the rest see altuliscia.fit_c."""
-    if nu is not None and (C is not None or retired is not None):
-        raise TypeError("nu is given in place of C, and nobody can be retired with it")
     options = altuliscia._options(eps, tol, shrinking, budget, max_iter, floor)
     whole = _Whole(matrix, labels, retired, languages)
+    if nu is not None and (C is not None or whole.gone):
+        raise TypeError("nu is given in place of C, and nobody can be retired with it")
     parts = [_Part(whole, *two) for two in combinations(whole.classes, 2)]
     for part in parts if nu is not None else ():
         words = altuliscia._infeasible(part, nu)

@@ -37,7 +37,7 @@ class Sorted(Doubts):
         for languages in (2, 3, 5, 12):
             matrix, labels, rows = drawn(draw, languages, 4 * languages)
             retired = [k for k in range(len(labels)) if draw.random() < 0.2 and labels[:k].count(labels[k])]
-            for options in ({"C": 2.0, "retired": retired}, {"C": 0.5, "eps": 1e-3}, {"nu": 0.2}, {}):
+            for options in ({"C": 2.0, "retired": retired}, {"C": 0.5, "eps": 1e-3}, {"nu": 0.2, "retired": []}, {}):
                 sorter = fit_languages(matrix, labels, **options)
                 gone, homes, samples, rhos = options.get("retired", []), [], [], []
                 for fit, numbers, (first, second) in zip(sorter.fits, sorter.samples, pairs(languages)):
