@@ -24,7 +24,9 @@ from array import array
 from collections import namedtuple
 
 import altuliscia
-from altuliscia import MOST_PASSES, USUAL_FLOOR, Before, fit_c, fit_general, fit_nu, fit_one_class
+from altuliscia import _EPS, _ONE, _PASSES, USUAL_FLOOR, Before, _costs, _options
+from altuliscia_answers import signed
+from altuliscia_taken import Problem
 
 
 class Trail(namedtuple("Trail", "sample retired ceiling start steps end home fit calls")):
@@ -86,88 +88,94 @@ class Differs(RuntimeError):
         super().__init__(f"after pass {pass_} the replay and the library differ in {what}: this is a fault of Altuliscia, and no trail "
                          "is told")
 
+    def __reduce__(self):
+        return type(self), (self.pass_, self.sample)
 
-def trail_c(matrix, labels, cpos=1.0, cneg=1.0, *, sample, eps=1e-7, shrinking=False, budget=MOST_PASSES, retired=None,
-            floor=USUAL_FLOOR):
+
+def trail_c(matrix, labels, cpos=_ONE, cneg=_ONE, *, sample, eps=_EPS, shrinking=False, budget=_PASSES, retired=None,
+            floor=USUAL_FLOOR, C=None, tol=None, max_iter=None):
     """The trail of one sample, by its number from 0 on, in what altuliscia.fit_c trains. What is refused there is refused here.
-    Shrinking must be off: with it on, samples move. The floor must be the usual one: the pair finder has no other."""
-    marks = altuliscia._labels(labels)
-    n = len(marks)
-    gone = altuliscia._retired(retired, n)
-    kernel = altuliscia._matrix(matrix, n)
+    Shrinking must be off: with it on, samples move. The floor must be the usual one: the pair finder has no other. A run may be looked at
+    in the middle, so one that isn't to be released doesn't warn."""
+    costs = _costs(cpos, cneg, C)
+    options = _options(eps, tol, shrinking, budget, max_iter, floor)
+    problem = Problem(matrix, labels, retired)
+    kernel, marks, gone, n = problem.kernel, problem.marks, problem.gone, problem.n
 
     def fit(passes):
-        return fit_c(kernel, marks, cpos, cneg, eps=eps, budget=passes, retired=gone, floor=floor)
+        return altuliscia._fit_c(problem, costs, options._replace(budget=passes))
 
     def replay():
-        ceilings = [float(cpos if mark else cneg) for mark in marks]
-        return _Replay(kernel, marks, ceilings, [0.0] * n, [-1.0] * n, eps, retired=gone)
+        ceilings = [float(costs[0 if mark else 1][1]) for mark in marks]
+        return _Replay(kernel, marks, ceilings, [0.0] * n, [-1.0] * n, options.eps, retired=gone)
 
-    return _trail(fit, replay, sample, shrinking, floor, budget, lambda weights, r: altuliscia._signed(weights, marks, gone))
+    return _trail(fit, replay, sample, options, lambda weights, r: signed(weights, marks, gone))
 
 
-def trail_nu(matrix, labels, nu=0.5, *, sample, eps=1e-7, shrinking=False, budget=MOST_PASSES, floor=USUAL_FLOOR):
+def trail_nu(matrix, labels, nu=0.5, *, sample, eps=_EPS, shrinking=False, budget=_PASSES, floor=USUAL_FLOOR, tol=None, max_iter=None):
     """As trail_c, in what altuliscia.fit_nu trains."""
-    marks = altuliscia._labels(labels)
-    n = len(marks)
-    kernel = altuliscia._matrix(matrix, n)
+    options = _options(eps, tol, shrinking, budget, max_iter, floor)
+    problem = Problem(matrix, labels)
+    kernel, marks, n = problem.kernel, problem.marks, problem.n
 
     def fit(passes):
-        return fit_nu(kernel, marks, nu, eps=eps, budget=passes, floor=floor)
+        return altuliscia._fit_nu(problem, nu, options._replace(budget=passes))
 
     def replay():
-        return _Replay(kernel, marks, [1.0] * n, _shared(marks, nu), [0.0] * n, eps, nu_rule=True)
+        return _Replay(kernel, marks, [1.0] * n, _shared(marks, nu), [0.0] * n, options.eps, nu_rule=True)
 
     def finished(weights, r):
-        return [_quotient(weight, r) for weight in altuliscia._signed(weights, marks, ())]
+        return [_quotient(weight, r) for weight in signed(weights, marks, ())]
 
     def plain(passes):
-        return fit_general(kernel, marks, [1.0] * n, _shared(marks, nu), [0.0] * n, nu_rule=True, eps=eps, budget=passes)
+        general = Problem(kernel, marks, ceilings=[1.0] * n, alphas=_shared(marks, nu), linear=[0.0] * n)
+        return altuliscia._fit_general(general, True, options._replace(budget=passes))
 
-    return _trail(fit, replay, sample, shrinking, floor, budget, finished, plain)
+    return _trail(fit, replay, sample, options, finished, plain)
 
 
-def trail_one_class(matrix, nu=0.5, *, sample, n=None, eps=1e-7, shrinking=False, budget=MOST_PASSES, floor=USUAL_FLOOR):
+def trail_one_class(matrix, nu=0.5, *, sample, n=None, eps=_EPS, shrinking=False, budget=_PASSES, floor=USUAL_FLOOR, tol=None,
+                    max_iter=None):
     """As trail_c, in what altuliscia.fit_one_class trains."""
-    n = altuliscia._columns(matrix) if n is None else operator.index(n)
-    kernel = altuliscia._matrix(matrix, n)
+    options = _options(eps, tol, shrinking, budget, max_iter, floor)
+    problem = Problem(matrix, n=n)
+    kernel, n = problem.kernel, problem.n
 
     def fit(passes):
-        return fit_one_class(kernel, nu, n=n, eps=eps, budget=passes, floor=floor)
+        return altuliscia._fit_one_class(problem, nu, options._replace(budget=passes))
 
     def replay():
-        return _Replay(kernel, b"\1" * n, [1.0] * n, _first_ones(n, nu), [0.0] * n, eps)
+        return _Replay(kernel, b"\1" * n, [1.0] * n, _first_ones(n, nu), [0.0] * n, options.eps)
 
-    return _trail(fit, replay, sample, shrinking, floor, budget, lambda weights, r: weights)
+    return _trail(fit, replay, sample, options, lambda weights, r: weights)
 
 
-def trail_general(matrix, labels, ceilings, alphas, linear, *, sample, nu_rule=False, eps=1e-7, shrinking=False, budget=MOST_PASSES,
-                  retired=None, floor=USUAL_FLOOR):
+def trail_general(matrix, labels, ceilings, alphas, linear, *, sample, nu_rule=False, eps=_EPS, shrinking=False, budget=_PASSES,
+                  retired=None, floor=USUAL_FLOOR, tol=None, max_iter=None):
     """As trail_c, in what altuliscia.fit_general trains."""
-    marks = altuliscia._labels(labels)
-    gone = altuliscia._retired(retired, len(marks))
-    kernel = altuliscia._matrix(matrix, len(marks))
-    lists = [altuliscia._doubles(given) for given in (ceilings, alphas, linear)]
+    options = _options(eps, tol, shrinking, budget, max_iter, floor)
+    problem = Problem(matrix, labels, retired, ceilings=ceilings, alphas=alphas, linear=linear)
 
     def fit(passes):
-        return fit_general(kernel, marks, *lists, nu_rule=nu_rule, eps=eps, budget=passes, retired=gone, floor=floor)
+        return altuliscia._fit_general(problem, nu_rule, options._replace(budget=passes))
 
     def replay():
-        return _Replay(kernel, marks, *(list(array("d", given)) for given in lists), eps, nu_rule=nu_rule, retired=gone)
+        lists = (list(array("d", given)) for given in problem.lists.values())
+        return _Replay(problem.kernel, problem.marks, *lists, options.eps, nu_rule=nu_rule, retired=problem.gone)
 
-    return _trail(fit, replay, sample, shrinking, floor, budget, lambda weights, r: weights)
+    return _trail(fit, replay, sample, options, lambda weights, r: weights)
 
 
-def _trail(fit, replay, sample, shrinking, floor, budget, finished, plain=None):
+def _trail(fit, replay, sample, options, finished, plain=None):
     """fit trains with as many passes at the most; finished gives weights as it answers them, where its r is that; plain, where it is
     there, answers them undivided."""
-    if shrinking:
+    if options.shrinking:
         raise ValueError("a trail is told with shrinking off: with it on, samples move")
-    answer = fit(budget)
-    if floor != USUAL_FLOOR:
+    answer = fit(options.budget)
+    if options.floor != USUAL_FLOOR:
         raise ValueError("a trail is told with the usual floor, 1e-10: the pair finder has no other")
     number = _number(sample, len(answer.home))
-    return _Follower(fit, replay(), number, finished, plain).follow(answer, operator.index(budget))
+    return _Follower(fit, replay(), number, finished, plain).follow(answer, options.budget)
 
 
 def _number(sample, n):

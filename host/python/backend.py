@@ -1,5 +1,5 @@
 """What pip calls to build the package from this folder (PEP 517): altuliscia.py with a shared object of the shipped archive beside it, and
-altuliscia_trail.py.
+the modules altuliscia_*.py.
 
 The archive is lib/MACHINE/libaltuliscia.a of the repository, or that of the folder ALTULISCIA_LIB; the compiler is `cc`, or what CC says.
 """
@@ -61,9 +61,9 @@ def build_wheel(wheel_directory, config_settings=None, metadata_directory=None):
                 "Summary: A support vector machine trainer that is proved to meet its contract\n"
                 "License: MIT OR Apache-2.0\nRequires-Python: >=3.7\n")
     wheel = f"Wheel-Version: 1.0\nGenerator: altuliscia\nRoot-Is-Purelib: false\nTag: {tag}\n"
-    trail = "altuliscia_trail.py"
-    files = [("altuliscia/__init__.py", source), ("altuliscia/libaltuliscia.so", shared_object()), (trail, read(os.path.join(HERE, trail))),
-             *((f"{info}/{name}", text) for name, text in licences()),
+    modules = sorted(name for name in os.listdir(HERE) if re.fullmatch(r"altuliscia_\w+\.py", name))
+    files = [("altuliscia/__init__.py", source), ("altuliscia/libaltuliscia.so", shared_object()),
+             *((name, read(os.path.join(HERE, name))) for name in modules), *((f"{info}/{name}", text) for name, text in licences()),
              (f"{info}/METADATA", metadata.encode()), (f"{info}/WHEEL", wheel.encode())]
     record = "".join(f"{name},sha256={digest(data)},{len(data)}\n" for name, data in files) + f"{info}/RECORD,,\n"
     name = f"altuliscia-{version}-{tag}.whl"

@@ -34,9 +34,13 @@ print(altuliscia.votes(2, [fit.home], [[0.25, 0.75]], [fit.rho]).winner)
 import altuliscia_trail
 assert os.path.realpath(altuliscia_trail.__file__).startswith(os.path.realpath(sys.argv[1])), altuliscia_trail.__file__
 print([step.left for step in altuliscia_trail.trail_c([[1, 0], [0, 1]], [1, 0], sample=1).steps])
+
+import altuliscia_languages
+print(altuliscia_languages.fit_languages([[1, 0, 0], [0, 1, 0], [0, 0, 1]], [1, 2, 3]).predict([[0.5, 0.75, 0.5]]))
+assert os.path.exists(os.path.join(os.path.dirname(altuliscia_languages.__file__), "altuliscia_sklearn.py"))
 PY
 version=$(sed -n 's/^__version__ = "\(.*\)"$/\1/p' altuliscia.py)
-printf '%s [0, 1] [[1.0, -1.0]] [0.0] [1] 0\n[0.5]\n2\n[1.0]\n' "$version" > "$away/expected"
+printf '%s [0, 1] [[1.0, -1.0]] [0.0] [1] 0\n[0.5]\n2\n[1.0]\n[2]\n' "$version" > "$away/expected"
 
 # tried PYTHON FOLDER: what that python prints, with the module found below the folder.
 tried() { (cd "$away" && "$1" try.py "$2" | diff expected -); }

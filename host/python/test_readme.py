@@ -28,6 +28,21 @@ class FirstScreen(unittest.TestCase):
         self.assertIsNone(re.search(r"^    1e-\d +\d+  on ", screen, re.MULTILINE))
 
 
+class Python(unittest.TestCase):
+    def test_it_is_tried(self):
+        """What is shown is part of a docstring, which is run as a test."""
+        shown = re.search(r"^```python\n(.*?)^```$", read("README.md"), re.MULTILINE | re.DOTALL).group(1).splitlines()
+        self.assertGreater(len(shown), 5)
+        self.assertIn("\n".join("    " + line for line in shown), read("host/python/altuliscia.py").split('"""')[1])
+
+    def test_modules_are_there(self):
+        part = read("README.md").split("\n## From Python\n")[1].split("\n## ")[0]
+        named = set(re.findall(r"altuliscia(?:_\w+)?(?=`)", part))
+        self.assertEqual(len(named), 4)
+        for name in named:
+            self.assertTrue(os.path.exists(os.path.join(ROOT, "host", "python", name + ".py")), name)
+
+
 class Blocks(unittest.TestCase):
     def blocks(self):
         """The commands, a line each: what is indented, but what programs print."""

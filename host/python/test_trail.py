@@ -11,7 +11,7 @@ import altuliscia
 import altuliscia_trail
 from altuliscia import Refusal, find_pair, fit_c, fit_general, fit_nu, fit_one_class
 from altuliscia_trail import Differs, trail_c, trail_general, trail_nu, trail_one_class
-from test_altuliscia import IDENTITY, ROOT, Problem, bits, figures, identity, read
+from test_altuliscia import IDENTITY, ROOT, Problem, bits, figures, identity, read, setUpModule, tearDownModule  # noqa: F401
 
 
 def load_tests(loader, tests, pattern):
@@ -206,13 +206,27 @@ class Wrong(unittest.TestCase):
 
     def test_library(self):
         # As if a call with a smaller budget stopped early.
-        def stopped(*given, budget, **options):
-            fit = fit_c(*given, budget=budget, **options)
-            fit.n_iter_ = fit.n_iter_ if budget == altuliscia.MOST_PASSES else [0]
+        trained = altuliscia._fit_c
+
+        def stopped(problem, costs, options):
+            fit = trained(problem, costs, options)
+            fit.n_iter_ = fit.n_iter_ if options.budget == altuliscia.MOST_PASSES else [0]
             return fit
 
-        with mock.patch("altuliscia_trail.fit_c", stopped):
+        with mock.patch("altuliscia._fit_c", stopped):
             self.assertEqual(self.noticed(), [None, 1, 1, 1])
+
+    def test_names(self):
+        """The other names of altuliscia.fit_c, and that a cost of one class alone warns here, too."""
+        matrix = [[2.0, 1.0, 0.5], [1.0, 2.0, 0.25], [0.5, 0.25, 2.0]]
+        plain = trail_c(matrix, [1, 0, 1], 0.5, 0.5, sample=1, eps=1e-3, budget=4)
+        named = trail_c(matrix, ["b", "a", "b"], sample=1, C=0.5, tol=1e-3, max_iter=4)
+        self.assertEqual(named[:-2], plain[:-2])
+        with self.assertWarns(altuliscia.OneCost) as caught:
+            trail_c(matrix, [1, 0, 1], 10.0, sample=1)
+        self.assertEqual(os.path.basename(caught.filename), "test_trail.py")
+        with self.assertRaises(TypeError):
+            trail_c(matrix, [1, 0, 1], 10.0, sample=1, C=1.0)
 
     def test_undivided(self):
         # r is infinite, so every weight is answered as 0.

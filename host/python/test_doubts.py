@@ -1,0 +1,244 @@
+"""Tests that nothing wrong goes by in silence: what isn't to be released, what warns and names the caller's line, the words of refusals."""
+import inspect
+import math
+import random
+import unittest
+import warnings
+from array import array
+
+from altuliscia import AboveCeiling, Asymmetric, Doubtful, Fit, InfeasibleNu, NotReleasable, OneCost, Refusal, fit_c, fit_general, fit_nu, fit_one_class
+from altuliscia_taken import unlike
+from test_altuliscia import IDENTITY, identity
+
+# Four samples on a line, which take some steps.
+LINE = [[x * y + 1.0 for y in (1, 2, 3, 5)] for x in (1, 2, 3, 5)]
+SIDES = [1, 1, 0, 0]
+
+
+def warned(call):
+    """What a call answers, and its warnings."""
+    with warnings.catch_warnings(record=True) as told:
+        warnings.simplefilter("always")
+        answer = call()
+    return answer, told
+
+
+class Doubts(unittest.TestCase):
+    def warns(self, kinds, call):
+        """The answer, where exactly these kinds of warnings are told, all with the line of this file that called."""
+        answer, told = warned(call)
+        self.assertEqual([one.category for one in told], kinds)
+        place = inspect.getsourcefile(call), inspect.getsourcelines(call)[1]
+        for one in told:
+            self.assertEqual((one.filename, one.lineno), place, one.message)
+        return answer, [str(one.message) for one in told]
+
+
+class Released(Doubts):
+    def test_good(self):
+        for call in (
+            lambda: fit_c(LINE, SIDES),
+            lambda: fit_nu(LINE, SIDES, 0.3),
+            lambda: fit_one_class(LINE),
+            lambda: fit_general(LINE, SIDES, [1] * 4, [0] * 4, [-1] * 4),
+            lambda: fit_c(LINE, SIDES, retired=[1]),
+            lambda: fit_c(LINE, SIDES, 2.0, 0.5),
+        ):
+            fit, _ = self.warns([], call)
+            self.assertTrue(fit.releasable)
+            self.assertIsNone(fit.unfit)
+
+    def test_bad(self):
+        for call, why in (
+            (lambda: fit_c(LINE, SIDES, budget=1), "the budget ran out after 1 steps"),
+            (lambda: fit_c(LINE, SIDES, max_iter=1), "the budget ran out after 1 steps"),
+            (lambda: fit_general(LINE, SIDES, [1] * 4, [0] * 4, [-1] * 4, budget=1), "the budget ran out after 1 steps"),
+            (lambda: fit_c(IDENTITY, [1, 1]), "rho is -inf; there is no support vector"),
+            (lambda: fit_nu(IDENTITY, [1, 0], 1.0), "rho is nan; r is inf; there is no support vector"),
+            (lambda: fit_c(IDENTITY, [1, 0], retired=[0, 1]), "rho is nan; there is no support vector"),
+            (lambda: fit_c(IDENTITY, [1, 0], C=1e-15), "there is no support vector"),
+        ):
+            fit, told = self.warns([NotReleasable], call)
+            self.assertEqual((fit.releasable, fit.unfit, told), (False, why, [f"this fit isn't to be released: {why}"]))
+
+    def test_each_by_itself(self):
+        good = {"rho": 0.5, "r": 2.0, "reason": 0, "support": 1}
+        for change, why in (
+            ({}, None), ({"reason": 1}, "the budget ran out after 7 steps"), ({"r": 0.0}, "r is 0.0"), ({"r": -0.0}, "r is -0.0"),
+            ({"r": math.nan}, "r is nan"), ({"r": -math.inf}, "r is -inf"), ({"rho": math.nan}, "rho is nan"), ({"rho": math.inf}, "rho is inf"),
+            ({"support": 0}, "there is no support vector"), ({"r": None}, None), ({"r": -2.0}, None),
+            ({"reason": 2}, "the run ended for the reason 2, which is newer than this file"),
+        ):
+            one = {**good, **change}
+            fit = Fit([1.0], [1.0], one["rho"], one["r"], 0.0, 7, one["reason"], (), one["support"])
+            self.assertEqual((fit.unfit, fit.releasable), (why, why is None))
+
+    def test_shown(self):
+        self.assertEqual(repr(fit_c(IDENTITY, [1, 0])), "<Fit of 2 samples: 2 support vectors, rho 0.0, 1 steps, releasable>")
+        fit, _ = warned(lambda: fit_c(IDENTITY, [1, 0], 1, 0.5, budget=1))
+        self.assertIn(", 1 steps, ceilings differ, not releasable: the budget ran out after 1 steps>", repr(fit))
+
+    def test_kinds(self):
+        for kind in (NotReleasable, InfeasibleNu, Asymmetric, OneCost, AboveCeiling):
+            self.assertTrue(issubclass(kind, Doubtful) and issubclass(kind, UserWarning))
+            self.assertEqual(kind.__module__, "altuliscia")
+        with warnings.catch_warnings():
+            warnings.simplefilter("error", Doubtful)
+            with self.assertRaises(NotReleasable):
+                fit_c(LINE, SIDES, budget=1)
+
+
+class Told(Doubts):
+    def test_nu(self):
+        # Two of seven: nu*7/2 > 2 from above 4/7 on.
+        line = [[x * y + 1.0 for y in range(7)] for x in range(7)]
+        labels, most = [1, 1, 0, 0, 0, 0, 0], 4 / 7
+        self.warns([], lambda: fit_nu(line, labels, 0.3))
+        # Just feasible: both positive samples are at their ceiling, and r is infinite.
+        self.warns([NotReleasable], lambda: fit_nu(line, labels, most))
+        _, told = self.warns([InfeasibleNu, NotReleasable], lambda: fit_nu(line, labels, 0.6))
+        self.assertEqual(told[0], "nu 0.6 is infeasible: the smaller class has 2 of 7 samples, so nu may be 0.571429 at the most")
+        _, told = self.warns([InfeasibleNu, NotReleasable], lambda: fit_nu(IDENTITY, [0, 0], 0.01))
+        self.assertIn("the smaller class has 0 of 2 samples, so nu may be 0 at the most", told[0])
+        # A nu that is refused, or labels that are, are told by the refusal alone.
+        for labels, nu, number in (([1, 1], 0.0, 9), ([1, 1], math.nan, 9), ([1, 1], 2.0, 9), ([1, 0.5], 1.0, 4)):
+            with warnings.catch_warnings():
+                warnings.simplefilter("error")
+                with self.assertRaises(Refusal) as caught:
+                    fit_nu(IDENTITY, labels, nu)
+            self.assertEqual(caught.exception.number, number)
+
+    def test_before_the_training(self):
+        with warnings.catch_warnings():
+            warnings.simplefilter("error")
+            with self.assertRaises(InfeasibleNu):
+                # Refused, were it trained.
+                fit_nu([[math.nan, 0], [0, 1]], [1, 1])
+
+    def test_asymmetric(self):
+        def spoilt(by):
+            line = [list(column) for column in LINE]
+            line[2][1] += by
+            return line
+
+        # Sample 2's own value is 10, so 1e-5 is the most.
+        for by in (0.0, 9e-6, -9e-6):
+            self.warns([], lambda: fit_c(spoilt(by), SIDES))
+        for by in (1.1e-5, -1.1e-5, 3.0):
+            _, told = self.warns([Asymmetric], lambda: fit_c(spoilt(by), SIDES))
+            mirror = f"column 1, row 2 is 7.0, and column 2, row 1 is {7.0 + by!r}"
+            self.assertEqual(told, [f"the kernel isn't symmetric: {mirror}"])
+        given = [1] * 4, [0] * 4, [-1] * 4
+        self.warns([Asymmetric], lambda: fit_nu(spoilt(1e-3), SIDES, 0.3))
+        self.warns([Asymmetric], lambda: fit_one_class(spoilt(1)))
+        self.warns([Asymmetric], lambda: fit_general(spoilt(1), SIDES, *given))
+        self.warns([Asymmetric], lambda: fit_c(array("d", sum(spoilt(1), [])), SIDES))
+        # Retired samples have no say.
+        for k in (1, 2):
+            self.warns([], lambda: fit_c(spoilt(1), SIDES, retired=[k]))
+        self.warns([Asymmetric], lambda: fit_c(spoilt(1), SIDES, retired=[3]))
+        self.warns([], lambda: fit_c([[1, -0.0], [0.0, 1]], [1, 0]))
+
+    def test_symmetry_drawn(self):
+        """Beside the same question, asked of each pair."""
+        draw, found = random.Random(3), 0
+        for _ in range(1000):
+            n = draw.randint(1, 6)
+            matrix = [[float((c - r) ** 2 % 7) for r in range(n)] for c in range(n)]
+            for _ in range(draw.randint(0, 3)):
+                matrix[draw.randrange(n)][draw.randrange(n)] += draw.choice((1e-9, 1e-7, 1e-6, 2e-6, -1e-5, 1.0))
+            gone = set(draw.sample(range(n), draw.randint(0, n)))
+            stand = [k for k in range(n) if k not in gone]
+            parted = {(c, r) for c in stand for r in stand if abs(matrix[c][r] - matrix[r][c]) > 1e-6 * max(
+                abs(matrix[i][j]) for i in (c, r) for j in (c, r))}
+            told = unlike(array("d", sum(matrix, [])).tobytes(), n, gone)
+            self.assertTrue(told[:2] in parted and told[2:] == (matrix[told[0]][told[1]], matrix[told[1]][told[0]]) if parted else told is None)
+            found += bool(parted)
+        self.assertTrue(100 < found < 900, found)
+
+    def test_one_cost(self):
+        fit, told = self.warns([OneCost], lambda: fit_c(LINE, SIDES, 10.0))
+        self.assertEqual(told, ["cpos is 10.0 and cneg isn't given, so it is 1.0: give both, or C=10.0 for both classes"])
+        self.assertEqual(fit.home, fit_c(LINE, SIDES, 10.0, 1.0).home)
+        _, told = self.warns([OneCost], lambda: fit_c(LINE, SIDES, cneg=3))
+        self.assertEqual(told, ["cneg is 3 and cpos isn't given, so it is 1.0: give both, or C=3 for both classes"])
+        for call in (
+            lambda: fit_c(LINE, SIDES, 1.0),
+            lambda: fit_c(LINE, SIDES, cneg=1),
+            lambda: fit_c(LINE, SIDES, 10.0, 1.0),
+            lambda: fit_c(LINE, SIDES, cpos=10.0, cneg=1.0),
+            lambda: fit_c(LINE, SIDES, C=10.0),
+        ):
+            self.warns([], call)
+
+    def test_above_ceiling(self):
+        # docs/DIFFERENCES.md, 'Unequal ceilings have no box': sample 1 ends above its ceiling by a rounding.
+        matrix = [[3, 2, 0, 1], [2, 2, 2, 1], [0, 2, 2, 2], [1, 1, 2, 1]]
+        given = [0, 1, 1, 1], [2, 1, 1, 1], [2, 0, 1, 0], [-2, 0, -2, 0]
+        fit, told = self.warns([AboveCeiling, NotReleasable], lambda: fit_general(matrix, *given, eps=0.0, budget=3))
+        self.assertEqual((fit.home[1], fit.above_ceiling, fit.one_ceiling), (1.0000000000000002, [1], False))
+        self.assertEqual(told[0], "a weight is above its ceiling, which can't be with equal ceilings: samples [1]")
+        for fit, same in (
+            (fit_c(LINE, SIDES), True), (fit_c(LINE, SIDES, 2, 2.0), True), (fit_c(LINE, SIDES, 2, 1), False), (fit_nu(LINE, SIDES, 0.3), True),
+            (fit_general(LINE, SIDES, [2] * 4, [0] * 4, [-1] * 4), True), (fit_general(LINE, SIDES, [2, 2, 1, 2], [0] * 4, [-1] * 4), False),
+            (fit_general(LINE, SIDES, [2, 2, 1, 2], [0] * 4, [-1] * 4, retired=[2]), True), (fit_c(LINE, SIDES, 2, 1, retired=[0]), False),
+        ):
+            self.assertEqual((fit.one_ceiling, fit.above_ceiling), (same, []))
+
+
+class Words(unittest.TestCase):
+    """What a refusal says, in the caller's words."""
+
+    def told(self, number, words, fit, *given, **options):
+        with warnings.catch_warnings():
+            warnings.simplefilter("ignore", Doubtful)
+            with self.assertRaises(Refusal) as caught:
+                fit(*given, **options)
+        self.assertEqual((caught.exception.number, caught.exception.sentence), (number, words))
+        self.assertTrue(str(caught.exception).endswith(": " + words))
+
+    def test_sizes(self):
+        y = [1, 0]
+        self.told(1, "there are 0 samples: give 1 to 512", fit_c, [], [])
+        self.told(1, "there are 513 samples: give 1 to 512", fit_c, identity(513), [1] * 513)
+        self.told(1, "there are -1 samples: give 1 to 512", fit_one_class, IDENTITY, n=-1)
+        self.told(2, "matrix is 64x5, needs 64x64: there are 64 labels", fit_c, [[0] * 5] * 64, [1] * 64)
+        self.told(2, "matrix is 2 columns of 1 to 3 numbers, needs 2x2: there are 2 labels", fit_c, [[1, 0, 0], [1]], y)
+        self.told(2, "matrix is 3 numbers, needs 2x2: there are 2 labels", fit_c, [1, 0, 0], y)
+        self.told(2, "matrix is 3 numbers in 31 bytes, needs 2x2: there are 2 labels", fit_c, bytes(31), y)
+        self.told(2, "matrix is 1x4, needs 2x2: there are 2 labels", fit_c, memoryview(bytes(32)).cast("d", (1, 4)), y)
+        self.told(2, "matrix is 2x2, needs 3x3", fit_one_class, IDENTITY, n=3)
+        self.told(2, "alphas has 3 numbers, needs 2", fit_general, IDENTITY, y, [1, 1], [0] * 3, [0, 0])
+        self.told(2, "linear has 0.125 numbers, needs 2", fit_general, IDENTITY, y, [1, 1], [0, 0], b"\0")
+
+    def test_values(self):
+        y = [1, 0]
+        finite = "finite ones up to 2^1000 in magnitude are taken; scale the kernel down or mend that entry"
+        self.told(3, f"the kernel value in column 1, row 0 is -inf: {finite}", fit_c, [[1, 0], [-math.inf, 1]], y)
+        pair = "0 and 1 are taken, or two whole numbers, or two strings"
+        self.told(4, f"the label of sample 1 is 0.5: {pair}", fit_c, IDENTITY, [1, 0.5])
+        more = "; here are 3 different ones, and altuliscia_languages sorts up to 12"
+        self.told(4, f"the label of sample 2 is 7: {pair}{more}", fit_c, identity(3), [1, 0, 7])
+        self.told(4, f"the label of sample 2 is 2: {pair}; here are 13 different ones", fit_c, identity(13), range(13))
+        for name, given, value in (("cpos", (0.0, 1.0), 0.0), ("cneg", (1.0, math.nan), math.nan)):
+            self.told(5, f"{name} is {value}: a ceiling is above 0 and at most 2^1000", fit_c, IDENTITY, y, *given)
+        self.told(5, "C is -1: a ceiling is above 0 and at most 2^1000", fit_c, IDENTITY, y, C=-1)
+        self.told(5, "C is -1: a ceiling is above 0 and at most 2^1000", fit_c, IDENTITY, y, C=-1, retired=[1])
+        self.told(5, "ceiling 1 is 0.0: a ceiling is above 0 and at most 2^1000", fit_general, IDENTITY, y, [1, 0], [0, 0], [0, 0])
+        self.told(6, "start alpha 1 is 2.0 and its ceiling 1.0: start within 0 and the ceiling", fit_general, IDENTITY, y, [1, 1], [1, 2], [0, 0])
+        self.told(7, "linear term 0 is nan: give a finite one", fit_general, IDENTITY, y, [1, 1], [0, 0], [math.nan, 0])
+
+    def test_settings(self):
+        y = [1, 0]
+        for options in ({"eps": -1.0}, {"tol": -1.0}):
+            self.told(8, "eps (tol) is -1.0: give 0 or a finite number above it", fit_c, IDENTITY, y, **options)
+        self.told(9, "nu is 1.5: give a number above 0 and not above 1", fit_nu, IDENTITY, y, 1.5)
+        self.told(9, "nu is 0: give a number above 0 and not above 1", fit_one_class, IDENTITY, nu=0)
+        for options in ({"budget": 0}, {"max_iter": 0}):
+            self.told(10, "budget (max_iter) is 0: give 1 to 10000000 passes", fit_c, IDENTITY, y, **options)
+        self.told(13, "shrinking is on and samples are retired: train with shrinking off", fit_c, IDENTITY, y, shrinking=True, retired=[1])
+        self.told(14, "floor is 2: give a number above 0 and not above 1; the usual one is 1e-10", fit_c, IDENTITY, y, floor=2)
+
+
+if __name__ == "__main__":
+    unittest.main()
