@@ -32,7 +32,9 @@ impl Model {
             support: support.collect::<Option<_>>()?,
         };
         let pairs = altuliscia::pairs(all).count();
-        (model.rhos.len() == pairs && lines.next().is_none()).then_some(model)
+        // behind the last weight stands its record, if anything
+        let recorded = lines.all(|line| line.starts_with('#'));
+        (model.rhos.len() == pairs && recorded).then_some(model)
     }
 
     /// What each pair decides on a caption, by its kernel values: the sum over the model's lines in their order, less rho.
@@ -81,6 +83,14 @@ SV
                 8.0 - 4.0 - 0.25
             ]
         );
+    }
+
+    #[test]
+    fn a_record_behind_it_is_passed_over() {
+        for (line, known) in [("# version 1.6.0", true), ("1 2 0:5", false)] {
+            let model = Model::read(&format!("{}{}\n", SMALL, line));
+            assert_eq!(model.is_some(), known, "{}", line);
+        }
     }
 
     #[test]
