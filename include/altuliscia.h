@@ -2,10 +2,10 @@
  * x86-64 and aarch64.
  *
  * Which to call. altuliscia_train_c and its four fellows take doubles and fill a struct: they are the ones to write by hand;
- * altuliscia_train_c_tuned and so on for who wants another floor of the curvature than 1e-10 (LIBSVM has 1e-12), and
- * altuliscia_find_pair for who replays one step of a run; altuliscia_vote for who has several languages, or classes, and a training
- * for each pair of them. They are inline, over functions on bytes (altuliscia_c and so on), which are
- * what the archive has, what is proved, and what other languages call. The inline ones are tested, not proved.
+ * altuliscia_train_c_tuned and so on for who wants another floor of the curvature than 1e-10 (LIBSVM has 1e-12), or that samples keep
+ * their own ceilings when shrinking moves them, and altuliscia_find_pair for who replays one step of a run; altuliscia_vote for who has
+ * several languages, or classes, and a training for each pair of them. They are inline, over functions on bytes (altuliscia_c and so on),
+ * which are what the archive has, what is proved, and what other languages call. The inline ones are tested, not proved.
  *
  * How to use the answer. home[s] is the weight of sample s (its dual coefficient), K(s, x) the kernel value of sample s and something
  * new: the sum over the samples of home[s] * K(s, x), less rho, is the decision. From 0 on x is positive (under one class: of the
@@ -19,21 +19,22 @@
  * Lists on bytes. A slice is a pointer and its length in bytes. A list of n doubles is 8n bytes: each double stands in eight bytes,
  * lowest first, which is how both processors keep a double in memory. The matrix is 8*n*n bytes: the double of column c, row r stands
  * in the eight bytes from 8*(c*n + r); it need not be symmetric. Labels are n bytes, 1 positive, 0 negative; retired bytes are n, 1
- * retired, 0 not. A tuning is 0 or 8 bytes. Slices may stand at any address, odd ones too. A slice of length 0 may be NULL. What is
- * written (crate_reading, home, answer) may overlap nothing else that is lent.
+ * retired, 0 not. A tuning is 0, 8 or 16 bytes, to altuliscia_retired 0 or 8. Slices may stand at any address, odd ones too. A slice of
+ * length 0 may be NULL. What is written (crate_reading, home, answer) may overlap nothing else that is lent.
  *
  * Numbers. To the functions on bytes eps, cpos, cneg, nu and the nine of altuliscia_pair travel as the uint64_t with the same eight
  * bytes, which altuliscia_bits gives. A float or double handed over in such a place doesn't compile (see 'guards' below). The floor
- * travels in the list `tuning`: (const uint8_t *)&tuning, sizeof tuning, of an altuliscia_tuning. A flag is on when it isn't 0.
+ * stands in the list `tuning`: (const uint8_t *)&tuning, sizeof tuning, of an altuliscia_tuning, to altuliscia_retired its first 8 bytes.
+ * A flag is on when it isn't 0.
  *
  * Results. Where the run is accepted the result is 0: the first 8n bytes of crate_reading and of home hold n doubles each and
  * `answer` holds the answer. Else the result is a refusal's number: `answer` holds it with its index, and both lists stay as they
  * were. Bytes past the first 8n of a list and past the answer's always stay. The answer has 72 bytes, that of altuliscia_c_tuned and its
  * three fellows 128. Where `answer` is shorter nothing at all is written, and the result is 1 (where n is bad) or 2.
  *
- * crate_reading is the list that the Rust crate linfa-svm answers, or would with that floor for its 1e-10: place i has the weight at position order[i]. home gives each
- * sample the weight that was trained for it: that is the one to ask for a sample's weight. They can differ only where samples were
- * moved and the order isn't its own inverse.
+ * crate_reading is the list that the Rust crate linfa-svm answers, or would with that floor for its 1e-10 and, travelling, with bounds
+ * that move along: place i has the weight at position order[i]. home gives each sample the weight that was trained for it: that is the one
+ * to ask for a sample's weight. They can differ only where samples were moved and the order isn't its own inverse.
  *
  * Threads and stack. A call keeps no state and shares nothing: calls from several threads may overlap in time. It asks for no
  * memory but its stack, of which it needs less than ALTULISCIA_STACK_BYTES (61575 were measured), and calls nothing from outside
@@ -53,7 +54,7 @@ extern "C" {
 
 /* The version of this header; altuliscia_version tells the library's. docs/STABLE.md has what stays as it is. */
 #define ALTULISCIA_VERSION_MAJOR 1
-#define ALTULISCIA_VERSION_MINOR 5
+#define ALTULISCIA_VERSION_MINOR 6
 #define ALTULISCIA_VERSION_PATCH 0
 
 /* The most samples and the largest budget that are accepted. */
@@ -114,8 +115,8 @@ enum altuliscia_refusal {
     /* The number of samples is 0 or above 512: lend 1 to 512 samples. */
     ALTULISCIA_BAD_SAMPLES = 1,
     /* A list has the wrong length: lend a matrix of 8*n*n bytes, n labels, n retired bytes, 8n bytes for each list of doubles, a
-     * tuning of 0 or 8 bytes, at least 8n bytes for each result list and at least 72 for the answer, under the tuned functions
-     * 128. */
+     * tuning of 0, 8 or 16 bytes, of 0 or 8 where samples may be retired, at least 8n bytes for each result list and at least 72 for
+     * the answer, under the tuned functions 128. */
     ALTULISCIA_BAD_LENGTH = 2,
     /* A kernel entry is NaN, infinite or above 2^1000 in magnitude: the index is column*n + row; scale the kernel down or mend
      * that entry. */
@@ -158,7 +159,8 @@ uint64_t altuliscia_general(size_t n, const uint8_t *matrix, size_t matrix_len, 
  * both lists have +0 for it. What is lent for it (label, ceiling, start alpha, linear term, its row and column of the matrix) is
  * judged as any other's and has no say in the answer. Every sample keeps its number. Shrinking must be off (refusal 13), so both
  * lists are the same and refusal 11 doesn't occur; retired bytes other than 0 and 1 are refusal 12. The order is 1 to 8, 10, 14, 12,
- * 13. `tuning` is what the _tuned functions below have; the answer is of 72 bytes all the same. */
+ * 13. `tuning` is that of the _tuned functions below, with word 0 alone: nothing moves here, and a length other than 0 and 8 is refusal
+ * 2. The answer is of 72 bytes all the same. */
 uint64_t altuliscia_retired(size_t n, const uint8_t *matrix, size_t matrix_len, const uint8_t *labels, size_t labels_len,
                             const uint8_t *ceilings, size_t ceilings_len, const uint8_t *alphas, size_t alphas_len,
                             const uint8_t *linear, size_t linear_len, const uint8_t *retired, size_t retired_len, uint8_t nu_rule,
@@ -188,9 +190,14 @@ uint64_t altuliscia_one_class(size_t n, const uint8_t *matrix, size_t matrix_len
  * `tuning` is a list of eight-byte words, lowest byte first. Word 0 is the floor, a double above 0 and not above 1, else it is refusal
  * 14. It stands for the curvature of a pair, K_ii + K_jj less twice K_ij, where that isn't above 0: where pairs are weighed against
  * each other, and in the step, which is divided by it before it is clipped. So a smaller floor takes longer steps along flat
- * directions; where every curvature is above 0 it has no say. The usual one is ALTULISCIA_USUAL_FLOOR; LIBSVM has 1e-12. A word that
- * isn't there has its usual value: with a tuning of length 0 the run is that of the function without _tuned. This version knows that
- * one word; a length other than 0 and 8 is refusal 2. Later versions may know more words behind it.
+ * directions; where every curvature is above 0 it has no say. The usual one is ALTULISCIA_USUAL_FLOOR; LIBSVM has 1e-12.
+ *
+ * Word 1 is travelling, on when it isn't 0; the usual one is 0. Where it is on, a step clips a weight by the ceiling of its sample; where
+ * it is off, as in linfa-svm, by that of the place where the sample stands, which is another sample's once shrinking has moved it. With one
+ * common ceiling, as nu and one class always have, and with shrinking off, both answer the same, byte for byte.
+ *
+ * A word that isn't there has its usual value: with a tuning of length 0 the run is that of the function without _tuned. This version
+ * knows these two words; a length other than 0, 8 and 16 is refusal 2. Later versions may know more words behind them.
  *
  * `answer` is of ALTULISCIA_TUNED_ANSWER_BYTES: the nine numbers as ever, then seven that are 0. */
 uint64_t altuliscia_general_tuned(size_t n, const uint8_t *matrix, size_t matrix_len, const uint8_t *labels, size_t labels_len,
@@ -263,6 +270,8 @@ uint64_t altuliscia_version(void);
 #endif
 /* A list of that many doubles as a slice, and one of that many bytes; where it is NULL, one of length 0. */
 #define ALTULISCIA_READ(list, count) ALTULISCIA_CAST(const uint8_t *, list), (list) ? 8 * (count) : 0
+/* The words up to the last that isn't its default: so what doesn't know a word isn't lent it unless it is asked for. */
+#define ALTULISCIA_TUNING(tuning) ALTULISCIA_READ(tuning, (tuning)->travelling ? 2u : 1u)
 #define ALTULISCIA_MARKS(list, count) list, (list) ? (count) : 0
 #define ALTULISCIA_WRITTEN(list, count) ALTULISCIA_CAST(uint8_t *, list), (list) ? 8 * (count) : 0
 
@@ -290,12 +299,13 @@ typedef char altuliscia_tuned_result_has_128_bytes[sizeof(altuliscia_tuned_resul
 /* What a run may be told beside its options. Later versions add fields at the end: so begin with altuliscia_usual_tuning() and set
  * what is to be other. */
 typedef struct altuliscia_tuning {
-    double floor; /* stands for a curvature that isn't above 0; above 0 and not above 1 */
+    double floor;        /* stands for a curvature that isn't above 0; above 0 and not above 1 */
+    uint64_t travelling; /* where it isn't 0, a sample keeps its own ceiling when shrinking moves it */
 } altuliscia_tuning;
-typedef char altuliscia_tuning_has_8_bytes[sizeof(altuliscia_tuning) == 8 ? 1 : -1];
+typedef char altuliscia_tuning_has_16_bytes[sizeof(altuliscia_tuning) == 16 ? 1 : -1];
 
 static inline altuliscia_tuning altuliscia_usual_tuning(void) {
-    altuliscia_tuning usual = {ALTULISCIA_USUAL_FLOOR};
+    altuliscia_tuning usual = {ALTULISCIA_USUAL_FLOOR, 0};
     return usual;
 }
 
@@ -357,7 +367,7 @@ static inline uint64_t altuliscia_train_c_tuned(size_t n, const double *matrix, 
                                                 double *crate_reading, double *home, altuliscia_tuned_result *result) {
     double room[ALTULISCIA_MOST_SAMPLES], *crate = crate_reading ? crate_reading : room;
     return altuliscia_c_tuned(n, ALTULISCIA_READ(matrix, n * n), ALTULISCIA_MARKS(labels, n), altuliscia_bits(cpos),
-                              altuliscia_bits(cneg), altuliscia_bits(eps), shrinking != 0, budget, ALTULISCIA_READ(tuning, 1u),
+                              altuliscia_bits(cneg), altuliscia_bits(eps), shrinking != 0, budget, ALTULISCIA_TUNING(tuning),
                               ALTULISCIA_WRITTEN(crate, n), ALTULISCIA_WRITTEN(home, n), ALTULISCIA_WRITTEN(result, 16u));
 }
 
@@ -366,7 +376,7 @@ static inline uint64_t altuliscia_train_nu_tuned(size_t n, const double *matrix,
                                                  double *crate_reading, double *home, altuliscia_tuned_result *result) {
     double room[ALTULISCIA_MOST_SAMPLES], *crate = crate_reading ? crate_reading : room;
     return altuliscia_nu_tuned(n, ALTULISCIA_READ(matrix, n * n), ALTULISCIA_MARKS(labels, n), altuliscia_bits(nu),
-                               altuliscia_bits(eps), shrinking != 0, budget, ALTULISCIA_READ(tuning, 1u),
+                               altuliscia_bits(eps), shrinking != 0, budget, ALTULISCIA_TUNING(tuning),
                                ALTULISCIA_WRITTEN(crate, n), ALTULISCIA_WRITTEN(home, n), ALTULISCIA_WRITTEN(result, 16u));
 }
 
@@ -375,7 +385,7 @@ static inline uint64_t altuliscia_train_one_class_tuned(size_t n, const double *
                                                         double *home, altuliscia_tuned_result *result) {
     double room[ALTULISCIA_MOST_SAMPLES], *crate = crate_reading ? crate_reading : room;
     return altuliscia_one_class_tuned(n, ALTULISCIA_READ(matrix, n * n), altuliscia_bits(nu), altuliscia_bits(eps),
-                                      shrinking != 0, budget, ALTULISCIA_READ(tuning, 1u), ALTULISCIA_WRITTEN(crate, n),
+                                      shrinking != 0, budget, ALTULISCIA_TUNING(tuning), ALTULISCIA_WRITTEN(crate, n),
                                       ALTULISCIA_WRITTEN(home, n), ALTULISCIA_WRITTEN(result, 16u));
 }
 
@@ -387,11 +397,12 @@ static inline uint64_t altuliscia_train_general_tuned(size_t n, const double *ma
     double room[ALTULISCIA_MOST_SAMPLES], *crate = crate_reading ? crate_reading : room;
     return altuliscia_general_tuned(n, ALTULISCIA_READ(matrix, n * n), ALTULISCIA_MARKS(labels, n), ALTULISCIA_READ(ceilings, n),
                                     ALTULISCIA_READ(alphas, n), ALTULISCIA_READ(linear, n), nu_rule != 0, altuliscia_bits(eps),
-                                    shrinking != 0, budget, ALTULISCIA_READ(tuning, 1u), ALTULISCIA_WRITTEN(crate, n),
+                                    shrinking != 0, budget, ALTULISCIA_TUNING(tuning), ALTULISCIA_WRITTEN(crate, n),
                                     ALTULISCIA_WRITTEN(home, n), ALTULISCIA_WRITTEN(result, 16u));
 }
 
-/* Shrinking, which must be off, isn't asked for. */
+/* Shrinking, which must be off, isn't asked for. The word travelling is lent only where it isn't 0, and is refusal 2 then: it is never
+ * dropped in silence. */
 static inline uint64_t altuliscia_train_retired_tuned(size_t n, const double *matrix, const uint8_t *labels,
                                                       const double *ceilings, const double *alphas, const double *linear,
                                                       const uint8_t *retired, int nu_rule, double eps, uint64_t budget,
@@ -400,8 +411,8 @@ static inline uint64_t altuliscia_train_retired_tuned(size_t n, const double *ma
     double room[ALTULISCIA_MOST_SAMPLES], *crate = crate_reading ? crate_reading : room;
     return altuliscia_retired(n, ALTULISCIA_READ(matrix, n * n), ALTULISCIA_MARKS(labels, n), ALTULISCIA_READ(ceilings, n),
                               ALTULISCIA_READ(alphas, n), ALTULISCIA_READ(linear, n), ALTULISCIA_MARKS(retired, n), nu_rule != 0,
-                              altuliscia_bits(eps), 0, budget, ALTULISCIA_READ(tuning, 1u), ALTULISCIA_WRITTEN(crate, n),
-                              ALTULISCIA_WRITTEN(home, n), ALTULISCIA_WRITTEN(result, 9u));
+                              altuliscia_bits(eps), 0, budget, ALTULISCIA_TUNING(tuning),
+                              ALTULISCIA_WRITTEN(crate, n), ALTULISCIA_WRITTEN(home, n), ALTULISCIA_WRITTEN(result, 9u));
 }
 
 static inline uint64_t altuliscia_train_retired(size_t n, const double *matrix, const uint8_t *labels, const double *ceilings,
@@ -518,6 +529,7 @@ static inline void altuliscia_sign(size_t n, const double *home, const uint8_t *
 
 #undef ALTULISCIA_CAST
 #undef ALTULISCIA_READ
+#undef ALTULISCIA_TUNING
 #undef ALTULISCIA_MARKS
 #undef ALTULISCIA_WRITTEN
 #endif

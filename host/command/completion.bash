@@ -2,7 +2,7 @@
 _altuliscia() {
     local word=${COMP_WORDS[COMP_CWORD]} before=${COMP_WORDS[COMP_CWORD - 1]} offered=
     local commands='train sort decide weights show check trail' own=
-    local shared='-s -c -w1 -w-1 -n -e -h --budget --floor --retired --pair --part -t -q --help'
+    local shared='-s -c -w1 -w-1 -n -e -h --budget --floor --travelling --retired --pair --part -t -q --help'
     COMPREPLY=()
     case $COMP_CWORD-${COMP_WORDS[1]} in
         1-*) offered="$commands help --help --version" ;;

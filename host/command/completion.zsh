@@ -33,7 +33,7 @@ case $words[CURRENT-1] in
         if [[ $words[CURRENT] != -* ]]; then
             _files
         else
-            compadd -- $own -s -c -w1 -w-1 -n -e -h --budget --floor --retired --pair --part -t -q --help
+            compadd -- $own -s -c -w1 -w-1 -n -e -h --budget --floor --travelling --retired --pair --part -t -q --help
         fi
         ;;
 esac

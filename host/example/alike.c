@@ -1,5 +1,5 @@
 /* Makes each drawn call twice, by altuliscia_train_X and by altuliscia_X, and compares what is returned and every byte that is written;
- * so with a drawn tuning, with drawn steps, by altuliscia_find_pair and altuliscia_pair, and with drawn panels, by altuliscia_vote and
+ * so with a drawn tuning, in both modes, with drawn steps, by altuliscia_find_pair and altuliscia_pair, and with drawn panels, by altuliscia_vote and
  * altuliscia_votes. Then what only the former can be handed, and decisions beside the votes. C99 and C++98. The exit status is 1 where
  * anything differs. */
 #include "altuliscia.h"
@@ -7,7 +7,7 @@
 #include <stdio.h>
 #include <string.h>
 
-enum { MOST = 512, RUNS = 2000, FUNCTIONS = 5 };
+enum { MOST = 512, RUNS = 2000, RETIRED = 4, FUNCTIONS = 5 };
 
 static double matrix[MOST * MOST], ceilings[MOST], alphas[MOST], linear[MOST];
 static uint8_t labels[MOST], retired[MOST];
@@ -101,7 +101,7 @@ static void call_tuned(int which, const struct given *g) {
     double *crate = a->crate_reading, *home = a->home;
     altuliscia_tuned_result *answer = &a->answer;
     const altuliscia_tuning *t = g->tuning;
-    size_t n = g->n, square = 8 * n * n, list = 8 * n, words = t ? 8 : 0;
+    size_t n = g->n, square = 8 * n * n, list = 8 * n, words = !t ? 0 : which == RETIRED && !t->travelling ? 8 : 16;
     uint64_t x = altuliscia_bits(g->x), y = altuliscia_bits(g->y), eps = altuliscia_bits(g->eps);
     switch (which) {
     case 0:
@@ -171,7 +171,7 @@ static int drawn(void) {
  * nothing. */
 static int as_without(const struct written *tuned, int which) {
     struct written expected = with_bytes;
-    if (which < 4)
+    if (which != RETIRED)
         memset(expected.answer.later, 0, sizeof expected.answer.later);
     return memcmp(tuned, &expected, sizeof expected) == 0;
 }
@@ -222,6 +222,45 @@ static int tunings(void) {
             few |= counts[which][found] < 10;
     printf("%d tuned calls alike, %s\n", RUNS, few ? "too few of a kind" : "of each kind some");
     return few;
+}
+
+/* Whether travelling may have a say: where shrinking is on and ceilings may differ. */
+static int may_part(int which, const struct given *g) {
+    return g->on && (which == 3 || (which == 0 && g->x != g->y));
+}
+
+/* Drawn calls with travelling on and off. Where samples may be retired it is refused. */
+static int modes(void) {
+    static const uint64_t words[] = {1, 256, (uint64_t)1 << 63};
+    static struct written on;
+    const uint64_t before = state;
+    int parted[FUNCTIONS] = {0};
+    for (int k = 0; k < 4 * RUNS; k++) {
+        const int which = k % FUNCTIONS;
+        struct given g = draw(k + 2, (int)below(2));
+        g.on = below(8) != 0;
+        altuliscia_tuning tuning = altuliscia_usual_tuning();
+        tuning.floor = below(3) ? tuning.floor : 1e-3;
+        tuning.travelling = words[below(3)];
+        g.tuning = &tuning;
+        paint();
+        call_tuned(which, &g);
+        int as_it_must = alike();
+        on = with_bytes;
+        tuning.travelling = 0;
+        paint();
+        call_tuned(which, &g);
+        int same = memcmp(&on, &with_bytes, sizeof on) == 0;
+        as_it_must &= alike() && (which == RETIRED ? on.returned == ALTULISCIA_BAD_LENGTH : same || may_part(which, &g));
+        if (!as_it_must) {
+            printf("run %d of both modes differs\n", k);
+            return 1;
+        }
+        parted[which] += !same;
+    }
+    state = before; /* the draws that follow stay as they were */
+    printf("%d calls in both modes, %s\n", 4 * RUNS, parted[0] > 20 && parted[3] > 20 ? "some part" : "too few part");
+    return !(parted[0] > 20 && parted[3] > 20);
 }
 
 /* Steps of which each number is drawn from what a run may meet and from what it never does. */
@@ -453,7 +492,7 @@ static void odd_tuned(void) {
     altuliscia_tuned_result answer;
     altuliscia_result shorter;
     altuliscia_tuning t = altuliscia_usual_tuning();
-    expect("the usual floor", t.floor == 1e-10);
+    expect("the usual tuning", t.floor == 1e-10 && t.travelling == 0);
     expect("no matrix is 2", altuliscia_train_c_tuned(2, NULL, y, 1, 1, 0, 0, 10, &t, NULL, home, &answer) == 2);
     expect("no labels is 2", altuliscia_train_nu_tuned(2, m, NULL, 1, 0, 0, 10, &t, NULL, home, &answer) == 2);
     expect("no home is 2", altuliscia_train_one_class_tuned(2, m, 1, 0, 0, 10, &t, NULL, NULL, &answer) == 2);
@@ -468,6 +507,10 @@ static void odd_tuned(void) {
     altuliscia_train_c_tuned(2, m, y, 1, 1, 0.001, 0, 10, &t, NULL, home, &answer);
     expect("not where refused", answer.result.refusal == ALTULISCIA_BAD_FLOOR && !altuliscia_usable(&answer.result));
     expect("14", altuliscia_train_retired_tuned(2, m, y, d, d, d, nobody, 0, 0, 10, &t, NULL, home, &shorter) == 14);
+    t = altuliscia_usual_tuning();
+    expect("retired", altuliscia_train_retired_tuned(2, m, y, d, d, d, nobody, 0, 0, 10, &t, NULL, home, &shorter) == 0);
+    t.travelling = 1;
+    expect("not travelling", altuliscia_train_retired_tuned(2, m, y, d, d, d, nobody, 0, 0, 10, &t, NULL, home, &shorter) == 2);
 }
 
 /* Lists that aren't there, and what decides a vote. */
@@ -500,6 +543,7 @@ static void odd_votes(void) {
 int main(void) {
     int differ = drawn();
     differ |= tunings();
+    differ |= modes();
     differ |= steps();
     differ |= panels();
     odd();

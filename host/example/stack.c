@@ -20,7 +20,7 @@ static const char *const names[FORMS][KINDS] = {
 static double matrix[MOST * MOST], ceilings[MOST], alphas[MOST], linear[MOST], crate_reading[MOST], home[MOST];
 static uint8_t labels[MOST], retired[MOST], answer[ALTULISCIA_TUNED_ANSWER_BYTES];
 static uint64_t counts[ALTULISCIA_PAIRS_OF(ALTULISCIA_MOST_LANGUAGES)], votes[ALTULISCIA_MOST_LANGUAGES];
-static const altuliscia_tuning tuning = {ALTULISCIA_USUAL_FLOOR};
+static const altuliscia_tuning tunings[2] = {{ALTULISCIA_USUAL_FLOOR, 0}, {ALTULISCIA_USUAL_FLOOR, 1}};
 static uint64_t state, accepted;
 static uintptr_t call_begins;
 
@@ -79,7 +79,7 @@ static uint64_t call_vote(size_t n) {
 /* Volatile, so that the frames of the calls below are what they are without them. */
 static uint64_t (*volatile votings[2])(size_t) = {call_votes, call_vote};
 
-#define TUNING (const uint8_t *)&tuning, sizeof tuning
+#define TUNING (const uint8_t *)&tunings[below(2)], sizeof *tunings
 
 static uint64_t call(int which, size_t n, uint8_t shrinking) {
     const uint8_t *m = (const uint8_t *)matrix;
@@ -100,8 +100,8 @@ static uint64_t call(int which, size_t n, uint8_t shrinking) {
         return altuliscia_one_class(n, m, square, bits(0.4), eps, shrinking, budget, c, list, h, list, answer, sizeof answer);
     case 4:
         return altuliscia_retired(n, m, square, labels, n, (const uint8_t *)ceilings, list, (const uint8_t *)alphas, list,
-                                  (const uint8_t *)linear, list, retired, n, (uint8_t)below(2), eps, 0, budget, TUNING, c, list, h,
-                                  list, answer, sizeof answer);
+                                  (const uint8_t *)linear, list, retired, n, (uint8_t)below(2), eps, 0, budget,
+                                  (const uint8_t *)tunings, 8, c, list, h, list, answer, sizeof answer);
     case 5:
         return altuliscia_pair(bits(alphas[0]), bits(ceilings[0]), bits(alphas[1]), bits(ceilings[1]), bits(linear[0]),
                                bits(linear[1]), bits(matrix[0]), bits(matrix[n + 1]), bits(matrix[1]), shrinking, answer,
@@ -163,20 +163,21 @@ static uint64_t call_train(int which, size_t n, uint8_t shrinking) {
 
 static uint64_t call_train_tuned(int which, size_t n, uint8_t shrinking) {
     uint64_t budget = 1 + below(200);
+    const altuliscia_tuning *tuning = &tunings[below(2)];
     altuliscia_tuned_result result;
     int rule = (int)below(2);
     switch (which) {
     case 0:
-        return altuliscia_train_general_tuned(n, matrix, labels, ceilings, alphas, linear, rule, 0.001, shrinking, budget, &tuning,
+        return altuliscia_train_general_tuned(n, matrix, labels, ceilings, alphas, linear, rule, 0.001, shrinking, budget, tuning,
                                               NULL, home, &result);
     case 1:
-        return altuliscia_train_c_tuned(n, matrix, labels, 1.0, 2.0, 0.001, shrinking, budget, &tuning, NULL, home, &result);
+        return altuliscia_train_c_tuned(n, matrix, labels, 1.0, 2.0, 0.001, shrinking, budget, tuning, NULL, home, &result);
     case 2:
-        return altuliscia_train_nu_tuned(n, matrix, labels, 0.4, 0.001, shrinking, budget, &tuning, NULL, home, &result);
+        return altuliscia_train_nu_tuned(n, matrix, labels, 0.4, 0.001, shrinking, budget, tuning, NULL, home, &result);
     case 3:
-        return altuliscia_train_one_class_tuned(n, matrix, 0.4, 0.001, shrinking, budget, &tuning, NULL, home, &result);
+        return altuliscia_train_one_class_tuned(n, matrix, 0.4, 0.001, shrinking, budget, tuning, NULL, home, &result);
     default:
-        return altuliscia_train_retired_tuned(n, matrix, labels, ceilings, alphas, linear, retired, rule, 0.001, budget, &tuning, NULL,
+        return altuliscia_train_retired_tuned(n, matrix, labels, ceilings, alphas, linear, retired, rule, 0.001, budget, tunings, NULL,
                                               home, &result.result);
     }
 }

@@ -1,5 +1,5 @@
-/* Tries what a tuning brings, by the functions on bytes: other floors, the refusal of bad ones and its place among the others, the
- * lengths of the tuning and of the answer. C99 and C++98. The exit status is 1 where anything isn't so. */
+/* Tries what a tuning brings, by the functions on bytes: other floors, the refusal of bad ones and its place among the others, ceilings
+ * that travel, the lengths of the tuning and of the answer. C99 and C++98. The exit status is 1 where anything isn't so. */
 #include "altuliscia.h"
 
 #include <stdio.h>
@@ -145,18 +145,87 @@ static void bad_floors(int which) {
 
 static void lengths(int which) {
     static const double words[16] = {ALTULISCIA_USUAL_FLOOR};
-    static const size_t wrong[] = {1, 7, 9, 15, 16, 24, 128};
+    static const size_t wrong[] = {1, 7, 9, 15, 17, 24, 128};
     struct lent l = with_floor(ALTULISCIA_USUAL_FLOOR);
     l.tuning = words;
     for (size_t k = 0; k < sizeof wrong / sizeof *wrong; k++) {
         l.tuning_len = wrong[k];
         expect("a tuning of another length", which, refused_with(which, &l, ALTULISCIA_BAD_LENGTH));
     }
+    l.tuning_len = 16;
+    if (which == RETIRED)
+        expect("one of 16 bytes", which, refused_with(which, &l, ALTULISCIA_BAD_LENGTH));
     l.tuning_len = 8;
     for (size_t k = 0; k < 3; k++) {
         l.answer_len = k == 0 ? answered(which) - 1 : k == 1 ? 71 : 0;
         expect("a short answer", which, call(which, &l) == ALTULISCIA_BAD_LENGTH && memcmp(&w, &painted, sizeof w) == 0);
         expect("and no sample", which, call_with(which, 0, &l) == ALTULISCIA_BAD_SAMPLES && memcmp(&w, &painted, sizeof w) == 0);
+    }
+}
+
+/* What word 1 may be: off, then on. The highest byte counts as the lowest does. */
+static const uint64_t modes[] = {0, 1, 2, (uint64_t)1 << 63, (uint64_t)-1};
+enum { MODES = sizeof modes / sizeof *modes };
+
+/* With that floor and that word 1, at an odd address. */
+static struct lent with_both(double floor, uint64_t mode) {
+    static uint8_t odd[17];
+    struct lent l = {odd + 1, 16, ROOM, 0, 2, 1, {0, 0}};
+    memcpy(odd + 1, &floor, 8);
+    memcpy(odd + 9, &mode, 8);
+    return l;
+}
+
+/* With one common ceiling no mode has a say, and the floor is judged in each. */
+static void both_words(int which) {
+    struct lent l = with_floor(1e-12);
+    l.shrinking = 1;
+    expect("one word", which, call(which, &l) == 0);
+    const struct written one = w;
+    for (size_t k = 0; k < MODES; k++) {
+        l = with_both(1e-12, modes[k]);
+        expect("two words", which, call(which, &l) == 0 && memcmp(&w, &one, sizeof w) == 0);
+        l = with_both(0, modes[k]);
+        expect("14 with two words", which, refused_with(which, &l, ALTULISCIA_BAD_FLOOR));
+    }
+}
+
+/* Four samples with ceilings that differ, of which shrinking moves two. The first is that of docs/DIFFERENCES.md, the other one's entries
+ * are the products of the points (-3 1), (1 3), (1 0) and (1 2), and 1 more for a point with itself. */
+static const double parting[2][16] = {{4, 0, 0, -1, 0, 2, 2, 1, 0, 2, 4, 0, -1, 1, 0, 3},
+                                      {11, 0, -3, -1, 0, 11, 1, 7, -3, 1, 2, 1, -1, 7, 1, 6}};
+static const double of_four[3][4] = {{1, 2, 2, 2}, {0, 2, 0, 2}, {2, 1, 1, -1}};
+static const uint8_t labels_of_four[2][4] = {{1, 0, 0, 0}, {0, 0, 0, 1}};
+
+static uint64_t call_parting(int which, const struct lent *l) {
+    const size_t n = 4;
+    memset(&painted, PAINT, sizeof painted);
+    w = painted;
+    if (which == GENERAL)
+        return altuliscia_general_tuned(n, READ(parting[0]), READ(labels_of_four[0]), READ(of_four[0]), READ(of_four[1]),
+                                        READ(of_four[2]), 0, altuliscia_bits(l->eps), l->shrinking, REST);
+    return altuliscia_c_tuned(n, READ(parting[1]), READ(labels_of_four[1]), altuliscia_bits(1), altuliscia_bits(2),
+                              altuliscia_bits(l->eps), l->shrinking, REST);
+}
+
+/* The weight of one of them, in the crate's mode and travelling; its ceiling is `ceiling`. */
+static void parted(int which, size_t sample, double theirs, double own, double ceiling) {
+    struct written first = painted;
+    expect("the crate's mode leaves it above", which, theirs > ceiling && own <= ceiling);
+    for (size_t k = 0; k < MODES; k++) {
+        struct lent l = with_both(ALTULISCIA_USUAL_FLOOR, modes[k]);
+        l.budget = 100;
+        expect("ceilings that travel", which, call_parting(which, &l) == 0 && w.home[sample] == (k ? own : theirs));
+        expect("by threshold, zeros behind", which, word(7) == ALTULISCIA_THRESHOLD && zeros_from(which, 9));
+        expect("on is on", which, k < 2 || memcmp(&w, &first, sizeof w) == 0);
+        first = w;
+        l.tuning_len = 8;
+        expect("one word is off", which, call_parting(which, &l) == 0 && w.home[sample] == theirs);
+        l.shrinking = 0;
+        expect("shrinking off", which, call_parting(which, &l) == 0);
+        const struct written still = w;
+        l.tuning_len = 16;
+        expect("no mode has a say", which, call_parting(which, &l) == 0 && memcmp(&w, &still, sizeof w) == 0);
     }
 }
 
@@ -166,7 +235,11 @@ int main(void) {
         other_floors(which);
         bad_floors(which);
         lengths(which);
+        if (which != RETIRED)
+            both_words(which);
     }
+    parted(GENERAL, 1, 2.020408163265306, 1.020408163265306, 2);
+    parted(C, 3, 1.146617692072237, 1, 1);
     l.shrinking = 1;
     expect("13", RETIRED, refused_with(RETIRED, &l, ALTULISCIA_RETIRED_SHRINKING));
     l.marks[0] = 2;

@@ -40,7 +40,7 @@ uint64_t tuned_places(const uint8_t *m, const double *d, const float *g, uint64_
     sum += altuliscia_train_c_tuned(2, L8, m, x, f, 1, 0, 10, T3, NULL, home, R2);
     sum += altuliscia_train_nu_tuned(2, L9, m, x, x, 0, 10, T4, NULL, home, R3);
     sum += altuliscia_train_one_class_tuned(2, L10, x, x, 0, 10, T5, NULL, home, R4);
-    return sum + r->result.refusal + s->refusal + w + (t->floor > 0);
+    return sum + r->result.refusal + s->refusal + w + (t->floor > 0) + t->travelling;
 }
 
 uint64_t vote_places(const uint8_t *m, double *d, const float *g, uint64_t *n) {

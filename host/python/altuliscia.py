@@ -47,6 +47,13 @@ such a pair, and a smaller floor takes longer steps along it:
     >>> [altuliscia.fit_c([[1, 1], [1, 1]], [1, 0], 1e12, 1e12, floor=floor).n_iter_ for floor in (1e-10, 1e-12)]
     [[50], [1]]
 
+Shrinking moves samples, and as in linfa-svm a step then clips a weight by the ceiling of the place where its sample stands; with
+`travelling` it is the sample's own. That has a say only where shrinking is on and the ceilings differ:
+
+    >>> kernel = [[11, 0, -3, -1], [0, 11, 1, 7], [-3, 1, 2, 1], [-1, 7, 1, 6]]
+    >>> altuliscia.fit_c(kernel, [0, 0, 0, 1], 1.0, 2.0, shrinking=True, travelling=True).home[3]
+    1.0
+
 Ctrl-C doesn't wait for the end of a long call from the main thread: that goes on by itself, in a thread, for at most `budget` passes.
 
 Where a weight came from: altuliscia_trail has the steps that a sample went through, and find_pair is one step by itself.
@@ -75,7 +82,7 @@ import altuliscia_taken as _taken
 from altuliscia_answers import (SENTENCES as _SENTENCES, SUPPORT_LIMIT, AboveCeiling, Asymmetric, Doubtful, Fit, InfeasibleNu, NoVotes, NotReleasable,
                                 OneCost, Refusal, Votes, signed as _signed, warn as _warn)
 
-__version__ = "1.5.0"
+__version__ = "1.6.0"
 
 MOST_SAMPLES = 512
 MOST_PASSES = 10_000_000
@@ -96,7 +103,7 @@ _PASSES = _taken.UsualInt(MOST_PASSES)
 
 
 def fit_c(matrix, labels, cpos=_ONE, cneg=_ONE, *, eps=_EPS, shrinking=False, budget=_PASSES, retired=None, floor=USUAL_FLOOR, C=None,
-          tol=None, max_iter=None):
+          tol=None, max_iter=None, travelling=False):
     """Trains two classes; `cpos` is the ceiling of positive samples and `cneg` that of negative ones, `C` both. With two that differ a
     weight may end above its ceiling, which is promised of one common ceiling alone: see `above_ceiling`. Where one of them is given and
     the other left at 1, a OneCost warns.
@@ -108,9 +115,11 @@ def fit_c(matrix, labels, cpos=_ONE, cneg=_ONE, *, eps=_EPS, shrinking=False, bu
                judged as any other's and has no say in the answer; shrinking must be off (refusal 13)
     floor      stands for the curvature of a pair where that isn't above 0: above 0 and not above 1 (else refusal 14). A smaller one
                takes longer steps along flat directions. With another one than the usual there is no trail
+    travelling whether a sample keeps its own ceiling when shrinking moves it. With one common ceiling, and with shrinking off, the answer
+               is the same either way. Where samples are retired it must be off (refusal 2)
     """
     costs = _costs(cpos, cneg, C)
-    options = _options(eps, tol, shrinking, budget, max_iter, floor)
+    options = _options(eps, tol, shrinking, budget, max_iter, floor, travelling)
     problem = _taken.Problem(matrix, labels, retired)
     return _judged(_fit_c(problem, costs, options), problem)
 
@@ -135,19 +144,19 @@ def fit_one_class(matrix, nu=0.5, *, n=None, eps=_EPS, shrinking=False, budget=_
 
 
 def fit_general(matrix, labels, ceilings, alphas, linear, *, nu_rule=False, eps=_EPS, shrinking=False, budget=_PASSES, retired=None,
-                floor=USUAL_FLOOR, tol=None, max_iter=None):
+                floor=USUAL_FLOOR, tol=None, max_iter=None, travelling=False):
     """Trains with each sample's ceiling, start weight and linear term given. The weights of `home` are neither signed by label nor
     divided; those of `coefficients` and `dual_coef_` are signed, and `decision_function` goes by them. For the rest see fit_c."""
-    options = _options(eps, tol, shrinking, budget, max_iter, floor)
+    options = _options(eps, tol, shrinking, budget, max_iter, floor, travelling)
     problem = _taken.Problem(matrix, labels, retired, ceilings=ceilings, alphas=alphas, linear=linear)
     return _judged(_fit_general(problem, nu_rule, options), problem)
 
 
-_Options = namedtuple("_Options", "eps shrinking budget floor")
+_Options = namedtuple("_Options", "eps shrinking budget floor travelling")
 
 
-def _options(eps, tol, shrinking, budget, max_iter, floor):
-    return _Options(_taken.either("eps", eps, "tol", tol), shrinking, _taken.passes(budget, max_iter, MOST_PASSES), floor)
+def _options(eps, tol, shrinking, budget, max_iter, floor, travelling=False):
+    return _Options(_taken.either("eps", eps, "tol", tol), shrinking, _taken.passes(budget, max_iter, MOST_PASSES), floor, bool(travelling))
 
 
 def _costs(cpos, cneg, both):
@@ -197,9 +206,11 @@ def _fit_c(problem, costs, options):
     told = {"classes": problem.classes, "ceilings": None if cpos == cneg else ceilings}
     if not gone:
         return Fit(*_asked(problem, "altuliscia_c_tuned", problem.lent(), given, options, costs=costs), **told)
-    # One pass of the C fit, for its refusals: there a bad cpos or cneg is told as such, not as a sample's ceiling.
+    # One pass of the C fit, for its refusals: there a bad cpos or cneg is told as such, not as a sample's ceiling. Travelling is refused
+    # below, before any cost would be.
     first = options._replace(shrinking=False, budget=min(options.budget, 1))
-    _asked(problem, "altuliscia_c_tuned", problem.lent(), given, first, costs=costs)
+    if not options.travelling:
+        _asked(problem, "altuliscia_c_tuned", problem.lent(), given, first, costs=costs)
     lent = (*problem.lent(), _taken.doubles(ceilings), _taken.doubles([0.0] * n), _taken.doubles([-1.0] * n))
     home, crate_reading, *rest = _asked(problem, "altuliscia_retired", (*lent, _marks(gone, n)), (_flag(False),), options)
     return Fit(_signed(home, marks, gone), _signed(crate_reading, marks, gone), *rest, **told)
@@ -227,10 +238,12 @@ def _fit_general(problem, nu_rule, options):
 
 def _asked(problem, name, lent, given, options, **said):
     """As _called, with refusals in the caller's words."""
-    eps, shrinking, budget, floor = options
+    eps, shrinking, budget, floor, travelling = options
     gone = problem.gone if name == "altuliscia_retired" else ()
+    # The second word is lent only where it is on: an older library, and one with retired samples, refuses it.
+    tuning = _taken.double(floor) + struct.pack("<Q", 1) * travelling
     try:
-        return _called(name, problem.n, lent, given, eps, shrinking, budget, (_taken.double(floor),), gone)
+        return _called(name, problem.n, lent, given, eps, shrinking, budget, (tuning,), gone)
     except Refusal as refusal:
         said.update(options._asdict())
         number, index = refusal.number, refusal.index

@@ -14,7 +14,8 @@ SUPPORT_LIMIT = 100 * 2.0 ** -52  # a weight counts as support where its magnitu
 SENTENCES = {
     1: "The number of samples is 0 or above 512: lend 1 to 512 samples.",
     2: "A list has the wrong length: lend a matrix of 8*n*n bytes, n labels, n retired bytes, 8n bytes for each list of doubles, a "
-       "tuning of 0 or 8 bytes, at least 8n bytes for each result list and at least 72 for the answer, under the tuned functions 128.",
+       "tuning of 0, 8 or 16 bytes, of 0 or 8 where samples may be retired, at least 8n bytes for each result list and at least 72 for "
+       "the answer, under the tuned functions 128.",
     3: "A kernel entry is NaN, infinite or above 2^1000 in magnitude: the index is column*n + row; scale the kernel down or mend "
        "that entry.",
     4: "A label is neither 0 nor 1: the index is its sample; write 1 for positive, 0 for negative.",
@@ -138,7 +139,8 @@ class Fit:
 
     home            each sample's own weight; that of fit_general is without a sign
     coefficients    each sample's own weight, signed by label: what a decision, and `votes`, takes
-    crate_reading   the list that the Rust crate linfa-svm answers, or would with this floor; weights may stand at other samples there
+    crate_reading   the list that the Rust crate linfa-svm answers, or would with this floor and, travelling, with bounds that move along;
+                    weights may stand at other samples there
     rho, r, obj     offset, scale of the nu rule (None without it), objective
     support_count   how many weights are above 100*2^-52 in magnitude, as the library counts them; a NaN isn't. support_ also has the
                     smaller ones, which a decision needs

@@ -260,7 +260,10 @@ class Problem:
         if len(self.kernel) != 8 * self.n * self.n:
             return f"matrix is {self.size}, needs {self.n}x{self.n}" + (f": there are {self.n} labels" if self.marks is not None else "")
         wrong = [(name, len(held) / 8) for name, held in self.lists.items() if len(held) != 8 * self.n]
-        return f"{wrong[0][0]} has {wrong[0][1]:g} numbers, needs {self.n}" if wrong else None
+        if wrong or not said.get("travelling"):
+            return f"{wrong[0][0]} has {wrong[0][1]:g} numbers, needs {self.n}" if wrong else None
+        return ("travelling is on and samples are retired: train with travelling off; nothing moves there" if self.gone else
+                "travelling is on, and this library doesn't know it: 1.6.0 and later ones do")
 
     def _refusal_3(self, index, said):
         column, row = map(self.number, divmod(index, self.n))

@@ -566,7 +566,8 @@ class Floor(Refused):
                 plain = self.answered(name, *rest)
                 answers.add(str(plain))
                 for tuning, expected in (
-                    (b"", plain), (bits([1e-10]), plain), (bytes(8), (14, 0)), *((bytes(length), (2, 0)) for length in (1, 7, 9, 16)),
+                    (b"", plain), (bits([1e-10]), plain), (bits([1e-10, 0.0]), plain), (bytes(8), (14, 0)), (bytes(16), (14, 0)),
+                    *((bytes(length), (2, 0)) for length in (1, 7, 9, 15, 17, 24)),
                 ):
                     self.assertEqual(self.answered(name + "_tuned", *rest, tuning), expected)
         self.assertGreater(len(answers), 200)

@@ -16,12 +16,14 @@ use crate::random::Random;
 use crate::run::solve;
 
 mod faint;
+mod modes;
 mod retired;
 mod step;
 mod still;
 mod tuned;
 
 pub use faint::{draw_big_faint, draw_faint};
+pub use modes::{draw_big_modes, draw_modes};
 pub use retired::{draw_retired, redraw_retired};
 pub use step::draw_step;
 pub use still::{draw_big_still, draw_still};

@@ -24,7 +24,7 @@ pub mod run;
 pub mod show;
 pub mod worked;
 
-pub use draw::{draw, draw_faint, draw_retired, draw_step, draw_still, draw_tuned};
+pub use draw::{draw, draw_faint, draw_modes, draw_retired, draw_step, draw_still, draw_tuned};
 pub use judge::{judge, Refusal};
 pub use problem::{Entry, Problem};
 pub use run::{solve, step, Accepted, Answer, Given, Outcome, Reason};

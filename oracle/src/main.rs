@@ -2,8 +2,8 @@
 
 use oracle::marks::{Owed, Tally};
 use oracle::{
-    draw, draw_faint, draw_retired, draw_still, draw_tuned, record, show, solve, worked, Outcome,
-    Problem,
+    draw, draw_faint, draw_modes, draw_retired, draw_still, draw_tuned, record, show, solve,
+    worked, Outcome, Problem,
 };
 use std::process::ExitCode;
 use std::time::Instant;
@@ -24,6 +24,8 @@ const HELP: &str = "oracle COMMAND
                     the same of problems with floors of their own
   draw still SEED COUNT, show still SEED
                     the same of problems with shrinking off, of C, nu and one-class
+  draw modes SEED COUNT, show modes SEED
+                    the same in the travelling mode, most with ceilings that differ
 ";
 
 fn main() -> ExitCode {
@@ -38,11 +40,13 @@ fn main() -> ExitCode {
         ["draw", "faint", seed, count] => run_draw(draw_faint, Owed::Faint, seed, count),
         ["draw", "tuned", seed, count] => run_draw(draw_tuned, Owed::Tuned, seed, count),
         ["draw", "still", seed, count] => run_draw(draw_still, Owed::Still, seed, count),
+        ["draw", "modes", seed, count] => run_draw(draw_modes, Owed::Modes, seed, count),
         ["show", seed] => run_show(draw, seed),
         ["show", "retired", seed] => run_show(draw_retired, seed),
         ["show", "faint", seed] => run_show(draw_faint, seed),
         ["show", "tuned", seed] => run_show(draw_tuned, seed),
         ["show", "still", seed] => run_show(draw_still, seed),
+        ["show", "modes", seed] => run_show(draw_modes, seed),
         _ => Err(HELP.to_string()),
     };
     match result {

@@ -5,10 +5,12 @@ use crate::judge::faults;
 use crate::problem::{Entry, Problem, BAD_FLOOR, LAST_REFUSAL, LIMIT, MOST_PASSES};
 use crate::run::{canonical, Accepted, Answer, Outcome, Place, Reason};
 use faint::{FAINT, WRONG};
+use modes::{Modes, MODES, NEVER};
 use still::{Still, STILL};
 use tuned::{Tuned, TUNED};
 
 mod faint;
+mod modes;
 mod retired;
 mod step;
 mod still;
@@ -30,6 +32,8 @@ pub enum Owed {
     Tuned,
     /// The same, of what `draw_still` draws.
     Still,
+    /// The same, of what `draw_modes` draws.
+    Modes,
     /// It has never been seen, or must never be.
     None,
 }
@@ -68,6 +72,12 @@ pub fn names() -> Vec<(String, Owed)> {
     all.extend(tuned_names().map(|name| (name, Owed::Tuned)));
     for (name, _) in STILL {
         all.push((format!("shrinking off: {name}"), Owed::Still));
+    }
+    for (list, owed) in [(MODES, Owed::Modes), (NEVER, Owed::None)] {
+        all.extend(
+            list.iter()
+                .map(|(name, _)| (format!("travelling: {name}"), owed)),
+        );
     }
     let part = "the readings have different support counts";
     all.push((part.into(), Owed::None));
@@ -148,6 +158,10 @@ pub fn marks(p: &Problem, answer: &Answer) -> Vec<bool> {
     let still = Still::of(p, answer);
     for (_, test) in STILL {
         all.push(still.as_ref().map_or(false, test));
+    }
+    let modes = Modes::of(p, answer);
+    for (_, test) in MODES.iter().chain(NEVER) {
+        all.push(modes.as_ref().map_or(false, test));
     }
     all.push(accepted.map_or(false, faint::readings_part));
     all.push(accepted.map_or(false, |a| a.weights.iter().any(|w| !w.is_finite())));
@@ -278,7 +292,7 @@ fn is_symmetric(p: &Problem) -> bool {
     (0..n * n).all(|k| m[k] == m[(k % n) * n + k / n])
 }
 
-fn ceilings_differ(p: &Problem) -> bool {
+pub fn ceilings_differ(p: &Problem) -> bool {
     match p.entry {
         Entry::General | Entry::Retired => p.ceilings.iter().any(|c| *c != p.ceilings[0]),
         Entry::C => p.cpos != p.cneg,

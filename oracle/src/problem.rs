@@ -132,6 +132,9 @@ pub struct Problem {
     pub budget: u64,
     /// What stands in for a curvature that isn't above 0.
     pub floor: f64,
+    /// Whether a sample's ceiling moves with it. In the published text it stays
+    /// with the place.
+    pub travelling: bool,
     pub crate_len: u64,
     pub home_len: u64,
     pub scratch_floats: u64,
@@ -141,8 +144,8 @@ pub struct Problem {
 
 impl Problem {
     /// A problem over the matrix of n columns, with every result list and
-    /// scratch list exactly as long as it must be, the usual floor and no label,
-    /// ceiling or parameter yet.
+    /// scratch list exactly as long as it must be, the usual floor, the published mode
+    /// and no label, ceiling or parameter yet.
     pub fn over(entry: Entry, n: usize, entries: &[f64]) -> Problem {
         let mut p = Problem {
             entry,
@@ -161,6 +164,7 @@ impl Problem {
             shrinking: false,
             budget: 1,
             floor: USUAL_FLOOR,
+            travelling: false,
             crate_len: 0,
             home_len: 0,
             scratch_floats: 0,

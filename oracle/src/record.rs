@@ -1,9 +1,9 @@
 //! The file of recorded answers. Its layout is told in `recorded/README.md`.
 
-use crate::draw::{draw, draw_big, draw_faint, draw_retired};
+use crate::draw::{draw, draw_big, draw_faint, draw_retired, draw_still};
 use crate::judge::judge;
 use crate::marks::{names, Owed, Tally};
-use crate::problem::{Entry, Problem};
+use crate::problem::{Entry, Problem, USUAL_FLOOR};
 use crate::run::{canonical, solve, Answer, Outcome, Reason};
 use crate::worked;
 
@@ -415,6 +415,18 @@ const FAINT: Plan = Plan {
     most_bytes: 900,
 };
 
+/// Of 16 to 24 samples with shrinking off, many with huge entries, at the usual floor.
+const STILL: Plan = Plan {
+    draw: draw_still,
+    plain: 0,
+    all: 20_000,
+    owed: Owed::Still,
+    of_each: 4,
+    of_each_refusal: 0,
+    of_each_large: 0,
+    most_bytes: 3400,
+};
+
 /// Larger ones: n, entry, shrinking, and whether the run ends in refusal 11.
 const BIG: [(usize, Entry, bool, bool); 14] = [
     (64, Entry::General, true, false),
@@ -455,6 +467,7 @@ pub fn chosen() -> (Vec<Vec<u8>>, Tally) {
     set.draw(&RETIRED);
     set.draw_big(&BIG_RETIRED);
     set.draw(&FAINT);
+    set.draw(&STILL);
     (set.records, set.tally)
 }
 
@@ -480,6 +493,10 @@ impl Set {
             .collect();
         for k in 0..plan.all {
             let p = (plan.draw)(FIRST_SEED + k);
+            if p.floor != USUAL_FLOOR {
+                // a record has no room for it
+                continue;
+            }
             let answer = solve(&p, true);
             let bytes = record(&p, &Told::of(&answer));
             let large = p.n > 24 && judge(&p).is_none();

@@ -160,6 +160,7 @@ fn run(p: &Problem) -> Svm<f64, f64> {
         shrinking: p.shrinking,
         budget: p.budget as usize,
         floor: p.floor,
+        travelling: p.travelling,
     };
     // the solver asks for the samples only to pick the support vectors; here
     // sample k is a row of one place that holds k

@@ -58,6 +58,7 @@ pub fn problem(p: &Problem) -> String {
     line("shrinking", p.shrinking.to_string());
     line("budget", p.budget.to_string());
     line("floor", float(p.floor));
+    line("travelling", p.travelling.to_string());
     line(
         "result lists",
         format!("crate {}, home {}", p.crate_len, p.home_len),

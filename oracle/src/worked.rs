@@ -107,6 +107,7 @@ fn state(pattern: &str) -> State {
             shrinking: true,
             budget: 1,
             floor: USUAL_FLOOR,
+            travelling: false,
         },
         false,
     )

@@ -8,12 +8,19 @@ use oracle::problem::MOST_PASSES;
 use oracle::record::{record, Told};
 use oracle::run::canonical;
 use oracle::{
-    draw, draw_faint, draw_retired, draw_still, draw_tuned, judge, solve, Accepted, Entry, Outcome,
-    Problem,
+    draw, draw_faint, draw_modes, draw_retired, draw_still, draw_tuned, judge, solve, Accepted,
+    Entry, Outcome, Problem,
 };
 
 type Draw = fn(u64) -> Problem;
-const ALL: [Draw; 5] = [draw, draw_retired, draw_faint, draw_tuned, draw_still];
+const ALL: [Draw; 6] = [
+    draw,
+    draw_retired,
+    draw_faint,
+    draw_tuned,
+    draw_still,
+    draw_modes,
+];
 
 const DRAWS: u64 = 100_000;
 
@@ -106,11 +113,27 @@ fn still_draws_reach_every_kind() {
     }
 }
 
-/// The other draws have the usual floor.
+/// Travelling, of four entries: moves, ceilings that differ, answers that part.
 #[test]
-fn a_floor_is_drawn_for_nothing_else() {
+fn mode_draws_reach_every_kind() {
+    let mut tally = Tally::owing(&[Owed::Modes]);
+    for seed in 0..20_000 {
+        let p = draw_modes(seed);
+        assert!(p.travelling && Entry::DRAWN.contains(&p.entry));
+        tally.add(&p, &solve(&p, false));
+    }
+    let wrong = tally.wrong();
+    assert!(wrong.is_empty(), "{wrong:?}\n{}", tally.lines().join("\n"));
+    let name = "travelling: another answer than in the crate's mode";
+    let count = tally.count(name);
+    assert!(count >= 200, "{count}: {name}");
+}
+
+/// The other draws have the usual floor, and the crate's mode.
+#[test]
+fn a_floor_or_a_mode_is_drawn_for_nothing_else() {
     for p in (0..5000).flat_map(|seed| [draw, draw_retired, draw_faint].map(|draw| draw(seed))) {
-        assert_eq!(p.floor, 1e-10);
+        assert_eq!((p.floor, p.travelling), (1e-10, false));
     }
 }
 

@@ -43,8 +43,28 @@ fn every_answer_comes_out_again_and_every_kind_is_there() {
     for (name, owed, count) in tally.carried() {
         assert!(owed != Owed::Faint || count >= 4, "{count} {name}");
     }
+    for name in OF_STILL {
+        let count = tally.count(&format!("shrinking off: {name}"));
+        assert!(count >= 4, "{count} {name}");
+    }
     assert!((3000..=4000).contains(&tally.total), "{}", tally.total);
 }
+
+/// What runs of 16 samples and more with shrinking off have in the file.
+const OF_STILL: [&str; 12] = [
+    "n 16",
+    "a gradient NaN",
+    "some gradients NaN, others numbers",
+    "a gradient infinite",
+    "a gradient minus infinity",
+    "a step among NaN gradients",
+    "a first eight places behind a NaN",
+    "a first eight places before a NaN",
+    "a step among infinite gradients",
+    "a first that has an equal",
+    "a step over an infinite gap",
+    "a gap whose square vanishes",
+];
 
 #[test]
 fn the_file_keeps_its_limits() {
@@ -76,6 +96,7 @@ fn the_file_keeps_its_limits() {
 /// Where the retired records begin, and where those with faint weights do.
 const RETIRED: usize = 3431;
 const FAINT: usize = 3725;
+const STILL: usize = 3776;
 
 fn room(records: &[Record]) -> usize {
     let each = records.iter();
@@ -115,9 +136,9 @@ fn retired_records_stand_behind_the_others() {
 /// Behind the retired records stand runs with weights near the support limit,
 /// of every entry. The edges themselves, by their patterns.
 #[test]
-fn faint_records_stand_at_the_end() {
+fn faint_records_stand_behind_those() {
     let records = read(&recorded()).expect("the file is whole");
-    let faint = &records[FAINT..];
+    let faint = &records[FAINT..STILL];
     assert!(room(faint) < 40_000, "{} bytes", room(faint));
     assert!(faint.iter().all(|r| r.told.refusal == 0));
     let limit = 0x3d19_0000_0000_0000_u64;
@@ -129,6 +150,26 @@ fn faint_records_stand_at_the_end() {
     }
     for entry in Entry::ALL {
         let of = faint.iter().filter(|r| r.problem.entry == entry);
+        assert!(of.count() >= 4, "{}", entry.name());
+    }
+}
+
+/// At the end stand runs with shrinking off, of the entries that then train
+/// without an order table; half of them with huge entries.
+#[test]
+fn still_records_stand_at_the_end() {
+    let records = read(&recorded()).expect("the file is whole");
+    let still = &records[STILL..];
+    assert!(still
+        .iter()
+        .all(|r| r.told.refusal == 0 && r.problem.n >= 16));
+    assert!(still
+        .iter()
+        .all(|r| !r.problem.shrinking && Entry::STILL.contains(&r.problem.entry)));
+    let huge = |r: &&Record| r.problem.entries().iter().any(|x| x.abs() >= 1e270);
+    assert!(still.iter().filter(huge).count() >= 16);
+    for entry in Entry::STILL {
+        let of = still.iter().filter(|r| r.problem.entry == entry);
         assert!(of.count() >= 4, "{}", entry.name());
     }
 }

@@ -71,6 +71,7 @@ fn params() -> SolverParams<f64> {
         shrinking: false,
         budget: 100,
         floor: USUAL,
+        travelling: false,
     }
 }
 

@@ -42,9 +42,10 @@ fn a_seed_draws_what_it_always_did() {
     assert_eq!(all, 0x48af_da0d_788a_011a);
 }
 
-/// The first file had no retired entry, the second no faint weights.
+/// The first file had no retired entry, the second no faint weights, the third
+/// no larger runs with shrinking off but a few.
 #[test]
-fn the_first_records_are_those_of_the_first_two_files() {
+fn the_first_records_are_those_of_the_first_three_files() {
     let path = Path::new(env!("CARGO_MANIFEST_DIR")).join("recorded/answers.bin");
     let bytes = fs::read(path).expect("recorded/answers.bin is there");
     let records = read(&bytes).expect("the file is whole");
@@ -55,4 +56,5 @@ fn the_first_records_are_those_of_the_first_two_files() {
     });
     assert_eq!(sums.nth(3430), Some(0x98c0_fa2f_697b_18dd));
     assert_eq!(sums.nth(293), Some(0x1d97_fa23_7170_9f09));
+    assert_eq!(sums.nth(50), Some(0x1fdb_1a79_1852_8ee5));
 }

@@ -82,7 +82,7 @@ pub extern "C" fn altuliscia_retired(
         & hosted::are_floats(n, a.len())
         & hosted::are_floats(n, p.len())
         & (r.len() == n)
-        & hosted::is_tuning(t);
+        & hosted::is_floor(t);
     let s = hosted::sized(n, lists, m.len(), cr.len(), h.len(), answer.len());
     if s == 0 {
         let tune = hosted::tuning_of(t);
@@ -395,5 +395,5 @@ pub extern "C" fn altuliscia_votes(
 pub extern "C" fn altuliscia_version() -> u64
     ensures { λ k. ⌜ _≡_ {A = ℕ} k version ⌝ }
 {
-    10500
+    10600
 }

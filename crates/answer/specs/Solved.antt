@@ -3,6 +3,7 @@ use Prim.Native.Nat.{ℕ}
 use mathlib.Core.Bool.{Bool, true, false}
 use mathlib.Core.List.{List}
 use lib.Ieee.{Float}
+use Rattle.modes.specs.Modes.{repaired}
 use Rattle.readings.specs.Order.{crateReading, homeReading, weightIn}
 use Rattle.rho.specs.Rho.{levelBy}
 use Rattle.rho.specs.declared.Level.{Level}
@@ -52,7 +53,7 @@ unfoldable pub homeOf : Given → Finish → List ℕ → Full → Level → Lis
 homeOf g how l w v h = finishedTo how l (v .r) (homeReading (g .n) (w .state .numbers) (weightIn (g .n) (w .state .floats)) h) (g .n)
 
 unfoldable pub levelAt : Given → Full → Level
-levelAt g w = levelBy (g .nu) (g .n) (w .state .floats) (w .state .labels) (w .run .active)
+levelAt g w = levelBy (g .nu) (repaired (g .mode)) (g .n) (w .state .floats) (w .state .labels) (w .run .active)
 
 -- refused with 11, both result lists stay
 unfoldable pub settledBy : Bool → Given → Finish → List ℕ → ℕ → Full → List Float → List Float → Read

@@ -6,6 +6,8 @@ ghost use lib.ListN.{length};
 ghost use Rattle.readings.specs.Order.{NamesSamples, crateReading, homeReading, weightIn};
 ghost use Rattle.solver.specs.Run.{Full, full};
 ghost use Rattle.state.specs.Lists.{State, state};
+ghost use Rattle.modes.specs.Modes.{repaired};
+ghost use Rattle.rho.specs.Rho.{levelBy};
 ghost use Rattle.answer.specs.Answer.{signedBy, coefficientOf, finishedTo, countedBy, supportOf, rhoOf, objOf, ratioOf, reasonOf};
 ghost use Rattle.answer.specs.Lent.{cleared};
 ghost use Rattle.answer.specs.Solved.{stuck, Read, read, answerOf, crateOf, homeOf, levelAt, settledOf};
@@ -170,6 +172,15 @@ fn read_both(
     finish_reading(h, l, n, how, r);
 }
 
+// rho, and with the nu rule r, over the active positions.
+fn level_at(f: &[f64], y: &[u8], g: Given, active: usize) -> Level
+    requires { ⌜ (active ≤ g .n) × (g .n ≤ 512) × (7 * g .n ≤ length (now f)) × (g .n ≤ length (now y)) ⌝ }
+    ensures { λ v. ⌜ v ≡ levelBy (g .nu) (repaired (g .mode)) (g .n) (now (f .entry)) (now (y .entry)) active ⌝ }
+{
+    let x = solver::is_repaired(g);
+    rho::level_by(f, y, g.n, active, g.nu, x)
+}
+
 // The answer of a run that left r, and both result lists.
 pub fn settle(
     cr: &mut [f64],
@@ -193,7 +204,7 @@ pub fn settle(
     }
     let n = g.n;
     let active = r.active;
-    let v = rho::level_by(f, y, n, active, g.nu);
+    let v = level_at(f, y, g, active);
     read_both(cr, h, f, u, l, n, how, v.r);
     let answer = Answer {
         rho: rho_of(how, v),

@@ -14,12 +14,14 @@ use Rattle.choose_c.proofs.Rule as C
 use Rattle.choose_nu.specs.Choice.{choiceNu}
 use Rattle.choose_nu.proofs.Rule as Nu
 use Rattle.extreme.specs.declared.Choice.the-variants.{Pair}
+use Rattle.modes.specs.declared.Mode.{Mode}
 use Rattle.partner.specs.Curvature.{gapOf}
+use Rattle.modes.specs.declared.Mode.{Mode}
 use Rattle.partner.specs.Sides.{riseOf}
 use Rattle.rounding.specs.Units.{NotNan}
-use Rattle.state.specs.Fields.{gradient, alpha, diagonal, row, positive, bound}
+use Rattle.state.specs.Fields.{gradient, alpha, diagonal, row, positive}
 use Rattle.state.specs.Lists.{Problem, State}
-use Rattle.update.specs.Update.{pairAt}
+use Rattle.update.specs.Update.{ceiling, pairAt}
 use Rattle.boxed.specs.Delta.{deltaAt}
 use Rattle.boxed.specs.Range.{Ceiling, Held, BothHeld, Entry, Divides, Chosen}
 use Rattle.boxed.proofs.Kept.{pair-held}
@@ -81,7 +83,7 @@ module _ (p : Problem) (s : State) (floor : Float) (i j : ℕ) where
   no-nan-nu eps a w e = step-real-at w (chosen-nu p s floor eps a i j e)
 
   -- and under one ceiling such a step leaves both weights in the box
-  pub pair-in-box : (b : Float) (bs : List Float) → Ceiling b → Held b (weight (alpha p s i .value) (bound bs i)) → Held b (weight (alpha p s j .value) (bound bs j)) → NotNan (deltaAt p s floor i j)
-      → BothHeld b (pairAt p bs floor s i j)
+  pub pair-in-box : (mode : Mode) (b : Float) (bs : List Float) → Ceiling b → Held b (weight (alpha p s i .value) (ceiling p mode bs s i)) → Held b (weight (alpha p s j .value) (ceiling p mode bs s j)) → NotNan (deltaAt p s floor i j)
+      → BothHeld b (pairAt p bs mode floor s i j)
   unfolding pairAt
-  pair-in-box b bs c hi hj h = pair-held b c _ _ hi hj (gradient p s i) (gradient p s j) (diagonal p s i) (diagonal p s j) (row p s i j) alike floor h
+  pair-in-box mode b bs c hi hj h = pair-held b c _ _ hi hj (gradient p s i) (gradient p s j) (diagonal p s i) (diagonal p s j) (row p s i j) alike floor h

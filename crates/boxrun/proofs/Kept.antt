@@ -1,5 +1,6 @@
 -- Where all but gradients and fixed gradients stays, the box is kept. Assumes nothing.
 use Prim.Native.Nat.{ℕ, _+_, _*_, _≤_, _<_}
+use mathlib.Core.Bool.{Bool}
 use mathlib.Core.List.{List}
 use mathlib.Core.Path.{_≡_, ap₂}
 use native.Mathlib.Omega.{arith}
@@ -23,7 +24,7 @@ module _ {b : Float} {p : Problem} {s : State} (f : List Float) {hi : ℕ} (e : 
   pub kept-boxed : 5 * p .n + p .side ≤ hi → Boxed b p s → Boxed b p (state f (s .numbers) (s .labels))
   kept-boxed l w = record { lent = kept-lent (omega arith) (w .lent); own = owned-kept {p = p} {s = s} f e l (record { ready = w .lent .ready; own = w .own }) .own }
 
-pub boxed-reconstructed : {b : Float} {p : Problem} (s : State) (a : ℕ) → a ≤ p .n → Boxed b p s → Boxed b p (state (reconstructed p a s) (s .numbers) (s .labels))
-boxed-reconstructed {b} {p} s a l w =
-    let e = same-reconstructed p a l (5 * p .n + p .side) s in
-    kept-boxed {b = b} {p = p} {s = s} (reconstructed p a s) (record { long = e .long; at = λ q x y. e .at q (omega arith) y }) (omega arith) w
+pub boxed-reconstructed : {b : Float} {p : Problem} (s : State) (x : Bool) (a : ℕ) → a ≤ p .n → Boxed b p s → Boxed b p (state (reconstructed p x a s) (s .numbers) (s .labels))
+boxed-reconstructed {b} {p} s x a l w =
+    let e = same-reconstructed p x a l (5 * p .n + p .side) s in
+    kept-boxed {b = b} {p = p} {s = s} (reconstructed p x a s) (record { long = e .long; at = λ q h y. e .at q (omega arith) y }) (omega arith) w

@@ -15,6 +15,8 @@ use Rattle.boxed.specs.Range.{Entry}
 use Rattle.kernel.specs.Matrix.{entryAt}
 use Rattle.kernel.specs.Row.{kernelIndex, alikeOf, signedOf, rowAt}
 use Rattle.kernel.proofs.Inside.{inside}
+use Rattle.modes.specs.Modes.{repaired}
+use Rattle.modes.specs.declared.Mode.{Mode}
 use Rattle.reconstruct.specs.Reconstruct.{reconstructed}
 use Rattle.rounding.specs.Units.{Number}
 use Rattle.rounding.proofs.Binary64.{limit-parts}
@@ -120,10 +122,10 @@ module _ {p : Problem} {s : State} (f : List Float) {hi : ℕ} (e : Same (2 * p 
   pub owned-kept : 5 * p .n + p .side ≤ hi → Owned p s → Owned p (over s f)
   owned-kept l w = record { ready = ready-floats (w .ready) f (e .long); own = λ c h. e .at (5 * p .n + c) (omega arith) (omega arith) ∙ w .own c h }
 
-pub owned-reconstructed : {p : Problem} (s : State) (a : ℕ) → a ≤ p .n → Owned p s → Owned p (over s (reconstructed p a s))
-owned-reconstructed {p} s a l w =
-    let e = same-reconstructed p a l (5 * p .n + p .side) s in
-    owned-kept {p = p} {s = s} (reconstructed p a s) (record { long = e .long; at = λ q x y. e .at q (omega arith) y }) (omega arith) w
+pub owned-reconstructed : {p : Problem} (s : State) (x : Bool) (a : ℕ) → a ≤ p .n → Owned p s → Owned p (over s (reconstructed p x a s))
+owned-reconstructed {p} s x a l w =
+    let e = same-reconstructed p x a l (5 * p .n + p .side) s in
+    owned-kept {p = p} {s = s} (reconstructed p x a s) (record { long = e .long; at = λ q x y. e .at q (omega arith) y }) (omega arith) w
 
 pub owned-moved : {p : Problem} {s : State} → Owned p s → (i j : ℕ) → i < p .n → j < p .n → Owned p (moved (p .n) s i j)
 unfolding moved
@@ -134,10 +136,10 @@ owned-moved {p} {s} w i j hi hj =
       own = λ c h. let q = w .ready .square in fields-behind nan (p .n) (s .floats) i j hi hj 5 (5 * p .n + c) (omega arith) (omega arith) ∙ w .own c h;
     }
 
-pub owned-updated : (p : Problem) (bs : List Float) (floor : Float) {s : State} → Owned p s → (i j a : ℕ) → i < p .n → j < p .n → a ≤ p .n → Owned p (updatedState p bs floor s i j a)
-owned-updated p bs floor {s} w i j a hi hj ha = record {
-  ready = ready-floats (w .ready) (updated p bs floor s i j a) (length-updated p bs floor s i j a);
-  own = λ c l. behind p bs floor s i j a hi hj ha (w .ready .floats) (5 * p .n + c) (omega arith) ∙ w .own c l;
+pub owned-updated : (p : Problem) (bs : List Float) (mode : Mode) (floor : Float) {s : State} → Owned p s → (i j a : ℕ) → i < p .n → j < p .n → a ≤ p .n → Owned p (updatedState p bs mode floor s i j a)
+owned-updated p bs mode floor {s} w i j a hi hj ha = record {
+  ready = ready-floats (w .ready) (updated p bs mode floor s i j a) (length-updated p bs mode floor s i j a);
+  own = λ c l. behind p bs mode floor s i j a hi hj ha (w .ready .floats) (5 * p .n + c) (omega arith) ∙ w .own c l;
 }
 
 pub owned-started : (p : Problem) (bs : List Float) {s : State} → Ready p s → Owned p (over s (started p bs s))
@@ -155,13 +157,13 @@ owned-started p bs {s} w =
 -- at each point of a run
 pub runs-owned : (g : Given) (m : List ℕ) (bs : List Float) (t : ℕ) (s : State) → Ready (problemOf g m) s → Keeps g (Owned (problemOf g m)) (runs g m bs (startOf g m bs s) t)
 runs-owned g m bs t s r =
-    runs-keeps g m (Owned (problemOf g m)) (λ t a l w. owned-reconstructed t a l w) (λ t i j x y w. owned-moved w i j x y) bs
-    (pair-keeps g m (Owned (problemOf g m)) bs (λ t i j a x y l d w. owned-updated (problemOf g m) bs (g .floor) w i j a (omega arith) (omega arith) l))
+    runs-keeps g m (Owned (problemOf g m)) (λ t a l w. owned-reconstructed t (repaired (g .mode)) a l w) (λ t i j x y w. owned-moved w i j x y) bs
+    (pair-keeps g m (Owned (problemOf g m)) bs (λ t i j a x y l d w. owned-updated (problemOf g m) bs (g .mode) (g .floor) w i j a (omega arith) (omega arith) l))
     (startOf g m bs s) t (record { kept = owned-started (problemOf g m) bs r; active = omega arith })
 
 -- and at its end
 pub trained-owned : (g : Given) (m : List ℕ) (bs : List Float) (budget : ℕ) (s : State) → Ready (problemOf g m) s → Keeps g (Owned (problemOf g m)) (trained g m bs budget s)
 trained-owned g m bs budget s r =
-    trained-keeps g m (Owned (problemOf g m)) (λ t a l w. owned-reconstructed t a l w) (λ t i j x y w. owned-moved w i j x y) bs
-    (pair-keeps g m (Owned (problemOf g m)) bs (λ t i j a x y l d w. owned-updated (problemOf g m) bs (g .floor) w i j a (omega arith) (omega arith) l))
+    trained-keeps g m (Owned (problemOf g m)) (λ t a l w. owned-reconstructed t (repaired (g .mode)) a l w) (λ t i j x y w. owned-moved w i j x y) bs
+    (pair-keeps g m (Owned (problemOf g m)) bs (λ t i j a x y l d w. owned-updated (problemOf g m) bs (g .mode) (g .floor) w i j a (omega arith) (omega arith) l))
     budget s (owned-started (problemOf g m) bs r)

@@ -11,6 +11,7 @@ use Rattle.boxed.proofs.Pairs.{no-nan-c, no-nan-nu}
 use Rattle.choose_c.specs.Choice.{choiceC}
 use Rattle.choose_nu.specs.Choice.{choiceNu}
 use Rattle.extreme.specs.declared.Choice.the-variants.{Pair}
+use Rattle.modes.specs.Modes.{repaired}
 use Rattle.reconstruct.specs.Reconstruct.{reconstructed}
 use Rattle.rounding.specs.Units.{NotNan}
 use Rattle.solver.specs.End.{trained}
@@ -54,16 +55,16 @@ module _ (g : Given) (m : List ℕ) {b : Float} {bs : List Float} (o : OneCeilin
       go true q = no-nan-nu p (w .state) (g .floor) i j (g .eps) (w .run .active) (plain o (h .kept) i j hi hj) q
       go false q = no-nan-c p (w .state) (g .floor) i j (g .eps) (w .run .active) (plain o (h .kept) i j hi hj) q
 
-  by-rebuilt : (s : State) (a : ℕ) → a ≤ g .n → B s → B (over s (reconstructed p a s))
-  by-rebuilt s a l w = boxed-reconstructed {b = b} {p = p} s a l w
+  by-rebuilt : (s : State) (a : ℕ) → a ≤ g .n → B s → B (over s (reconstructed p (repaired (g .mode)) a s))
+  by-rebuilt s a l w = boxed-reconstructed {b = b} {p = p} s (repaired (g .mode)) a l w
 
   by-moved : (s : State) (i j : ℕ) → i < g .n → j < g .n → B s → B (moved (g .n) s i j)
   by-moved s i j x y w = boxed-moved w i j x y
 
-  by-updated : (w : Full) (i j : ℕ) → chosen g m w ≡ Pair i j → Keeps g B w → B (updatedState p bs (g .floor) (w .state) i j (w .run .active))
+  by-updated : (w : Full) (i j : ℕ) → chosen g m w ≡ Pair i j → Keeps g B w → B (updatedState p bs (g .mode) (g .floor) (w .state) i j (w .run .active))
   by-updated w i j e h =
       let l = chosen-below g m w i j e in
-      boxed-updated o (h .kept) i j (w .run .active) (omega (arith, l .0, h .active)) (omega (arith, l .1, h .active)) (h .active) (chosen-apart g m w i j e) (step-real w i j e h)
+      boxed-updated o (h .kept) (g .mode) i j (w .run .active) (omega (arith, l .0, h .active)) (omega (arith, l .1, h .active)) (h .active) (chosen-apart g m w i j e) (step-real w i j e h)
 
   box-runs : (s : State) → LentBoxed b p s → (t : ℕ) → Keeps g B (runs g m bs (startOf g m bs s) t)
   box-runs s h t = runs-keeps g m B by-rebuilt by-moved bs by-updated (startOf g m bs s) t (record { kept = boxed-started p bs h; active = omega arith })

@@ -16,6 +16,7 @@ use Rattle.judge.specs.Judge.{floorGood, generalJudged, cJudged, nuJudged, oneC
 use Rattle.judge.proofs.Accepted.{floor-passed}
 use Rattle.kernel.specs.declared.Kind.{Kind}
 use Rattle.kernel.specs.declared.Kind.the-variants.{TwoClass, OneClass}
+use Rattle.modes.specs.declared.Mode.the-variants.{Crate}
 use Rattle.solver.specs.declared.Given.{Given}
 use Rattle.tuning.specs.Tuning.{plainTuning}
 use Rattle.classification.specs.Entries.{sizesOf, entered, decided, fitted, generalTuned, generalTunedSized, fitCTuned, fitCTunedSized, fitNuTuned, fitNuTunedSized, fitOneClassTuned, fitOneClassTunedSized, generalOf, fitCOf, fitNuOf, fitOneClassOf}
@@ -26,7 +27,7 @@ plain-good = refl
 
 -- what a run was given then
 abbrev pub givenThen : ℕ → Kind → Float → Bool → Bool → Given
-givenThen n kind eps shrinking nu = record { n = n; side = n; kind = kind; floor = Weight.floor; eps = eps; shrinking = shrinking; nu = nu }
+givenThen n kind eps shrinking nu = record { n = n; side = n; kind = kind; mode = Crate; floor = Weight.floor; eps = eps; shrinking = shrinking; nu = nu }
 
 module _ (n : ℕ) (m l : List ℕ) (eps : Float) (shrinking : Bool) (budget : ℕ) (d : Lent) where
   pub general-sized-plain : (c a p : List Float) (nurule : Bool)

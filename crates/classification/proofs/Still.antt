@@ -8,11 +8,11 @@ use Rattle.answer.specs.Solved.{stuck}
 use Rattle.extreme.specs.declared.Choice.{Choice}
 use Rattle.extreme.specs.declared.Choice.the-variants.{Pair, Optimal}
 use Rattle.solver.specs.End.{closed, trained}
-use Rattle.solver.specs.Pass.{chosen, rebuilt, countedDown, stepped, looked, workedBy, onward, passed, next, runs}
+use Rattle.solver.specs.Pass.{chosen, countedDown, stepped, looked, workedBy, onward, passed, next, runs}
 use Rattle.solver.specs.Run.{Full, withRun, goes, counterAt}
 use Rattle.solver.specs.declared.Given.{Given}
 use Rattle.state.specs.Lists.{State}
-use Rattle.trace.proofs.Off.{closed-off, counted-off}
+use Rattle.trace.proofs.Off.{refreshed-off, closed-off, counted-off}
 use Rattle.classification.specs.Still.{Still}
 
 module _ (g : Given) (m : List ℕ) (b : List Float) (off : g .shrinking ≡ false) (u : List ℕ) where
@@ -30,14 +30,10 @@ module _ (g : Given) (m : List ℕ) (b : List Float) (off : g .shrinking ≡ fal
   looked-still w (Pair i j) s = stepped-still (withRun w (counterAt (w .run) 1)) i j (record { order = s .order; active = s .active; free = s .free })
   looked-still w Optimal s = record { order = s .order; active = s .active; free = refl }
 
-  rebuilt-still : (w : Full) → Still u (g .n) w → Still u (g .n) (rebuilt g m w)
-  unfolding rebuilt
-  rebuilt-still w s = record { order = s .order; active = s .active; free = s .free }
-
   worked-still : (w : Full) (c : Choice) → Still u (g .n) w → Still u (g .n) (workedBy g m b w c)
   unfolding workedBy
   worked-still w (Pair i j) s = stepped-still w i j s
-  worked-still w Optimal s = looked-still (rebuilt g m w) (chosen g m (rebuilt g m w)) (rebuilt-still w s)
+  worked-still w Optimal s = rw (refreshed-off g m w (s .active)) (looked-still w (chosen g m w) s)
 
   onward-still : (x : Bool) (w : Full) → Still u (g .n) w → Still u (g .n) (onward g m b x w)
   unfolding onward

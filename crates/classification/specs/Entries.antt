@@ -25,7 +25,7 @@ use Rattle.tuning.specs.Tuning.{plainTuning}
 use Rattle.tuning.specs.declared.Tuning.{Tuning}
 
 abbrev pub givenBy : Tuning → ℕ → Kind → Float → Bool → Bool → Given
-givenBy t n kind eps shrinking nu = record { n = n; side = n; kind = kind; floor = t .floor; eps = eps; shrinking = shrinking; nu = nu }
+givenBy t n kind eps shrinking nu = record { n = n; side = n; kind = kind; mode = t .mode; floor = t .floor; eps = eps; shrinking = shrinking; nu = nu }
 
 -- ---- the parts that all entries share
 
@@ -101,7 +101,7 @@ fitOneClassTunedSized t n m nu eps shrinking budget d =
 unfoldable pub fitOneClassTuned : Tuning → ℕ → List ℕ → Float → Float → Bool → ℕ → Lent → Whole
 fitOneClassTuned t n m nu eps shrinking budget d = entered (sizesOf n true m d) (fitOneClassTunedSized t n m nu eps shrinking budget d) d
 
--- ---- with the published Rust's floor
+-- ---- as the published Rust runs
 
 abbrev pub givenOf : ℕ → Kind → Float → Bool → Bool → Given
 givenOf = givenBy plainTuning

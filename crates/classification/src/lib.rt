@@ -19,10 +19,12 @@ use tuning::Tuning;
 pub fn given(t: Tuning, n: usize, kind: Kind, eps: f64, shrinking: bool, nu: bool) -> Given
     ensures { λ g. ⌜ g ≡ givenBy t n kind eps shrinking nu ⌝ }
 {
+    let mode = t.mode;
     Given {
         n,
         side: n,
         kind,
+        mode,
         floor: t.floor,
         eps,
         shrinking,

@@ -188,10 +188,20 @@ fn share_c(f: &[f64], y: &[u8], m: &[u8], g: Given, cpos: f64, cneg: f64) -> Sha
     s
 }
 
-fn share_nu(f: &[f64], y: &[u8], m: &[u8], g: Given, cpos: f64, cneg: f64, label: u8) -> Share
+// x says whether the ub is lowered.
+fn share_nu(
+    f: &[f64],
+    y: &[u8],
+    m: &[u8],
+    g: Given,
+    cpos: f64,
+    cneg: f64,
+    label: u8,
+    x: bool,
+) -> Share
     requires { ⌜ SheetReady g (now m) (now y) (now f) ⌝ }
     ensures { λ s. ⌜ (s ≡ shareNuOf (now (y .entry)) (alphaOf (now (y .entry)) (ceilingsOf cpos cneg) (readIn (g .nu) (g .n) (now (f .entry))))
-        (slopeIn g (now (m .entry)) (now (y .entry)) (ceilingsOf cpos cneg) (readIn (g .nu) (g .n) (now (f .entry)))) label (g .n)) × (s .free ≤ 512) ⌝ }
+        (slopeIn g (now (m .entry)) (now (y .entry)) (ceilingsOf cpos cneg) (readIn (g .nu) (g .n) (now (f .entry)))) x label (g .n)) × (s .free ≤ 512) ⌝ }
 {
     let n = g.n;
     let mut s = Share {
@@ -202,7 +212,7 @@ fn share_nu(f: &[f64], y: &[u8], m: &[u8], g: Given, cpos: f64, cneg: f64, label
     };
     for k in 0..n {
         let w = sheet::alpha_in(f, y, g.nu, n, k, cpos, cneg);
-        s = rho::join(s, y[k] == label, w, sheet::slope(f, y, g, k, cpos, cneg));
+        s = rho::join(x, s, y[k] == label, w, sheet::slope(f, y, g, k, cpos, cneg));
     }
     s
 }
@@ -213,8 +223,9 @@ pub fn level(f: &[f64], y: &[u8], m: &[u8], g: Given, cpos: f64, cneg: f64) -> L
     ensures { λ l. ⌜ l ≡ levelIn g (now (m .entry)) (now (y .entry)) (ceilingsOf cpos cneg) (readIn (g .nu) (g .n) (now (f .entry))) ⌝ }
 {
     if g.nu {
-        let a = rho::settle(share_nu(f, y, m, g, cpos, cneg, 1));
-        let b = rho::settle(share_nu(f, y, m, g, cpos, cneg, 0));
+        let x = solver::is_repaired(g);
+        let a = rho::settle(share_nu(f, y, m, g, cpos, cneg, 1, x));
+        let b = rho::settle(share_nu(f, y, m, g, cpos, cneg, 0, x));
         return Level {
             rho: (a - b) / 2.0,
             r: (a + b) / 2.0,

@@ -61,7 +61,7 @@ movedBy n [] s = s
 movedBy n (m ∷ ms) s = movedBy n ms (moved n s (m .i) (m .j))
 
 abbrev pub walkOf : List Bool → Walking State
-walkOf p = walked (λ s k. getD p (sample s k) K) (moved (length p)) (length p) (fresh (length p)) (length p)
+walkOf p = walked false (λ s k. getD p (sample s k) K) (moved (length p)) (length p) (fresh (length p)) (length p)
 
 abbrev pub orderOf : ℕ → State → List ℕ
 orderOf n s = take n (s .numbers)

@@ -1,5 +1,6 @@
 -- Where `altuliscia_c`, `altuliscia_nu` or `altuliscia_one_class` answers 0: what stays with a sample, and the box. Assumes nothing.
 use Prim.Native.Nat.{ℕ, _<_}
+use mathlib.Core.Bool.{true}
 use mathlib.Core.List.{List}
 use mathlib.Core.Path.{_≡_}
 use lib.Ieee.{nan, binary64}
@@ -9,14 +10,15 @@ use Rattle.alpha.specs.Weight.{one, minusOne}
 use Rattle.altuliscia.specs.Functions.{cHostBy, nuHostBy, oneClassHostBy}
 use Rattle.boxed.specs.Range.{In}
 use Rattle.extreme.specs.declared.Choice.the-variants.{Pair}
-use Rattle.fits.specs.Starts.{nothing, evenly, allPositive, half, sharedTo, oneClassTo}
+use Rattle.fits.specs.Starts.{nothing, evenly, allPositive, half, sharedTo, oneClassTo, costOf}
 use Rattle.hosted.specs.Hosted.{isOn, asFloat, room}
 use Rattle.promises.specs.Fit.{Fit, after, weightAfter, pairAfter, deltaAfter, stepsTaken}
 use Rattle.promises.proofs.Boxes.{c-box, c-no-nan, c-home-box, nu-box, nu-no-nan, nu-home-box, one-class-box, one-class-no-nan, one-class-home-box}
-use Rattle.promises.proofs.Entries.{c-travels, nu-travels, one-class-travels}
+use Rattle.promises.proofs.Entries.{c-travels, nu-travels, one-class-travels, c-ceilings}
 use Rattle.rounding.specs.Units.{NotNan}
 use Rattle.travel.specs.Home.{lastLeft}
-use Rattle.travel.specs.Travel.{Travelled}
+use Rattle.modes.specs.Modes.{travels}
+use Rattle.travel.specs.Travel.{Travelled, OwnCeilings}
 use Rattle.tuning.specs.declared.Tuning.{Tuning}
 use Rattle.handed.specs.Trains.{cTrains, nuTrains, oneClassTrains}
 use Rattle.handed.proofs.Handed.{c-called, nu-called, one-class-called}
@@ -28,6 +30,12 @@ module _ (tune : Tuning) (n : ℕ) (m l : List ℕ) (cpos cneg eps shrinking bud
   c-called-travels =
       let x = c-called tune n m l cpos cneg eps shrinking budget cr h an z in
       c-travels tune n m l (asFloat cpos) (asFloat cneg) (asFloat eps) (isOn shrinking) budget room (x .0) (x .1)
+
+  -- where ceilings travel
+  pub c-called-ceilings : travels (tune .mode) ≡ true → (t : ℕ) → OwnCeilings n (λ s. costOf (asFloat cpos) (asFloat cneg) (getD l s 0)) (after (cTrains tune n l cpos cneg eps shrinking) m room t .state)
+  c-called-ceilings =
+      let x = c-called tune n m l cpos cneg eps shrinking budget cr h an z in
+      c-ceilings tune n m l (asFloat cpos) (asFloat cneg) (asFloat eps) (isOn shrinking) budget room (x .0) (x .1)
 
 -- the box, where both costs are the same
 module _ (tune : Tuning) (n : ℕ) (m l : List ℕ) (cost eps shrinking budget : ℕ) (cr h an : List ℕ) (z : cHostBy tune n m l cost cost eps shrinking budget cr h an .code ≡ 0) where

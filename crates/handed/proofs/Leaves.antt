@@ -15,7 +15,7 @@ use Rattle.answer.specs.Answer.{wordsOf}
 use Rattle.answer.specs.Lent.{Whole}
 use Rattle.answer.specs.declared.Outcome.{Outcome}
 use Rattle.answer.specs.declared.Outcome.the-variants.{Accepted, Refused}
-use Rattle.hosted.specs.Hosted.{isOn, byteSizes, generalInputs, tuningKnown, tuningOf, handed, answeredBy, deliveredBy, delivered, turnedAway, hostedBy}
+use Rattle.hosted.specs.Hosted.{isOn, byteSizes, generalInputs, floorKnown, tuningOf, handed, answeredBy, deliveredBy, delivered, turnedAway, hostedBy}
 use Rattle.hosted.proofs.Serves.{serves}
 use Rattle.promises.proofs.Beyond.{beyond-refl}
 use Rattle.wire.specs.Wire.{digits}
@@ -128,5 +128,5 @@ pub retired-called-leaves : (n : ℕ) (m l c a p r : List ℕ) (nurule eps shrin
     → HandsBack n 72 cr h an (retiredHost n m l c a p r nurule eps shrinking budget t cr h an)
 unfolding retiredHost
 retired-called-leaves n m l c a p r nurule eps shrinking budget t cr h an =
-    hosted-leaves n cr h an _ _ (answer-long n (generalInputs n l c a p && eqb (length r) n && tuningKnown t) m cr h an)
+    hosted-leaves n cr h an _ _ (answer-long n (generalInputs n l c a p && eqb (length r) n && floorKnown t) m cr h an)
     (few-retired (tuningOf t .floor) (retired-called-number n m l c a p r nurule eps shrinking budget t cr h an))

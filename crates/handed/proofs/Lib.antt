@@ -8,4 +8,5 @@ pub mod Threshold
 pub mod Trail
 pub mod Pair
 pub mod Tuned
+pub mod Modes
 pub mod Votes

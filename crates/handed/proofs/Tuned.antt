@@ -12,6 +12,7 @@ use lib.ListN.{length}
 use Rattle.altuliscia.specs.Functions.{generalHostBy, cHostBy, nuHostBy, oneClassHostBy, generalHost, cHost, nuHost, oneClassHost}
 use Rattle.answer.specs.declared.Outcome.the-variants.{Refused}
 use Rattle.hosted.specs.Hosted.{hostSizes, byteSizes, generalInputs, tuningKnown, tuningOf, Handed, handed, answeredBy, padded, turnedAway, hostedBy, widened, turnedWide, hostedWide}
+use Rattle.hosted.proofs.Worked.{tuning-none}
 use Rattle.judge.specs.Sizes.{countGood, sizes}
 use Rattle.promises.specs.Fit.{Fit}
 use Rattle.promises.proofs.Beyond.{beyond-refl}
@@ -137,7 +138,7 @@ widened-gives : {k : Fit} {m : List ℕ} {budget : ℕ} {o : Handed} → Gives k
 widened-gives g = record { home = g .home; alike = g .alike }
 
 untuned : (t : List ℕ) → length t ≡ 0 → (tuningKnown t ≡ true) × (tuningOf t ≡ plainTuning)
-untuned t none = (rw none, rw none)
+untuned t none = (rw none, tuning-none t none)
 
 -- ---- the four functions
 

@@ -1,6 +1,6 @@
 -- Lists and answers as the host's bytes (the rule, section 'What a caller lends and gets').
 use Prim.Native.Nat.{ℕ, zero, suc, _+_, _*_, _/_, _%_}
-use mathlib.Core.Bool.{Bool, not, _&&_, cond}
+use mathlib.Core.Bool.{Bool, false, not, _&&_, cond}
 use mathlib.Core.List.{List}
 use lib.Dec.{eqb, leb}
 use lib.Ieee.{Float, nan, binary64, ofBits}
@@ -11,9 +11,11 @@ use Rattle.answer.specs.Lent.{Lent, lent, Whole}
 use Rattle.answer.specs.declared.Outcome.{Outcome}
 use Rattle.answer.specs.declared.Outcome.the-variants.{Accepted, Refused}
 use Rattle.judge.specs.Sizes.{sizes}
+use Rattle.modes.specs.declared.Mode.{Mode}
+use Rattle.modes.specs.declared.Mode.the-variants.{Crate, Travelling}
 use Rattle.tuning.specs.Tuning.{tuned}
 use Rattle.tuning.specs.declared.Tuning.{Tuning}
-use Rattle.wire.specs.Wire.{floatAt, withDigits, withFloat}
+use Rattle.wire.specs.Wire.{digits, floatAt, withDigits, withFloat}
 
 -- d with the first floats of the bytes b
 unfoldable pub decodedTo : List ℕ → List Float → ℕ → List Float
@@ -50,13 +52,29 @@ isOn flag = not (eqb flag 0)
 abbrev pub asFloat : ℕ → Float
 asFloat w = ofBits binary64 w
 
--- a tuning has whole words, and no more than are known: one, the floor
+-- a tuning has whole words, and no more than are known
+abbrev pub wordsAtMost : ℕ → List ℕ → Bool
+wordsAtMost most t = eqb (length t % 8) 0 && leb (length t / 8) most
+
+-- two: the floor, and whether ceilings travel; where samples may be retired the floor alone
 abbrev pub tuningKnown : List ℕ → Bool
-tuningKnown t = eqb (length t % 8) 0 && leb (length t / 8) 1
+tuningKnown = wordsAtMost 2
+
+abbrev pub floorKnown : List ℕ → Bool
+floorKnown = wordsAtMost 1
 
 -- a word that isn't there is its default
+unfoldable pub floorOf : List ℕ → Float
+floorOf t = cond (leb 8 (length t)) (floatAt t 0) Weight.floor
+
+unfoldable pub wordOn : List ℕ → ℕ → Bool
+wordOn t at = cond (leb (at + 8) (length t)) (isOn (digits t at 8)) false
+
+unfoldable pub modeOf : List ℕ → Mode
+modeOf t = cond (wordOn t 8) Travelling Crate
+
 abbrev pub tuningOf : List ℕ → Tuning
-tuningOf t = tuned (cond (leb 8 (length t)) (floatAt t 0) Weight.floor)
+tuningOf t = tuned (floorOf t) (modeOf t)
 
 -- k bytes are n floats
 abbrev pub eights : ℕ → ℕ → Bool

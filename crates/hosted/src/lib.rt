@@ -4,10 +4,12 @@ ghost use mathlib.Core.Bool.{Bool};
 ghost use Prim.Native.Nat.{ℕ, _+_, _*_, _≤_, _<_};
 ghost use lib.ListN.{length};
 ghost use Rattle.answer.specs.Answer.{ratioThere, ratioBits, reasonNumber, wordsOf};
-ghost use Rattle.hosted.specs.Hosted.{decodedTo, storedTo, wordsTo, answeredBy, eights, zeroedTo, padded, tuningKnown, tuningOf, hostSizes, Handed, handed, deliveredBy, turnedAway, turnedWide, freshPlaces, freshFloats, freshNumbers, freshBytes, freshSheet};
+ghost use Rattle.hosted.specs.Hosted.{decodedTo, storedTo, wordsTo, answeredBy, eights, zeroedTo, padded, tuningKnown, floorKnown, floorOf, wordOn, modeOf, tuningOf, hostSizes, Handed, handed, deliveredBy, turnedAway, turnedWide, freshPlaces, freshFloats, freshNumbers, freshBytes, freshSheet};
+use alpha::Alpha;
 use answer::ExitReason;
 use answer::Outcome;
 use answer::Ratio;
+use modes::Mode;
 use tuning::Tuning;
 
 pub fn decode(d: &mut [f64], b: &[u8], n: usize)
@@ -106,19 +108,52 @@ pub fn pad(out: &mut [u8])
 pub fn is_tuning(t: &[u8]) -> bool
     ensures { λ r. ⌜ r ≡ tuningKnown (now (t .entry)) ⌝ }
 {
+    (t.len() % 8 == 0) & (t.len() / 8 <= 2)
+}
+
+// .. where samples may be retired.
+pub fn is_floor(t: &[u8]) -> bool
+    ensures { λ r. ⌜ r ≡ floorKnown (now (t .entry)) ⌝ }
+{
     (t.len() % 8 == 0) & (t.len() / 8 <= 1)
+}
+
+fn floor_of(t: &[u8]) -> f64
+    ensures { λ r. ⌜ r ≡ floorOf (now (t .entry)) ⌝ }
+{
+    if 8 <= t.len() {
+        return wire::float_at(t, 0);
+    }
+    Alpha::curvature_floor()
+}
+
+// Whether the word that begins at byte `at` is there, and isn't 0.
+fn word_on(t: &[u8], at: usize) -> bool
+    requires { ⌜ at ≤ 8 ⌝ }
+    ensures { λ r. ⌜ r ≡ wordOn (now (t .entry)) at ⌝ }
+{
+    if at + 8 <= t.len() {
+        return wire::word_at(t, at) != 0;
+    }
+    false
+}
+
+fn mode_of(t: &[u8]) -> Mode
+    ensures { λ r. ⌜ r ≡ modeOf (now (t .entry)) ⌝ }
+{
+    if word_on(t, 8) {
+        return Mode::Travelling;
+    }
+    Mode::Crate
 }
 
 // A word that isn't there is its default.
 pub fn tuning_of(t: &[u8]) -> Tuning
     ensures { λ r. ⌜ r ≡ tuningOf (now (t .entry)) ⌝ }
 {
-    if 8 <= t.len() {
-        return Tuning {
-            floor: wire::float_at(t, 0),
-        };
-    }
-    tuning::plain()
+    let floor = floor_of(t);
+    let mode = mode_of(t);
+    Tuning { floor, mode }
 }
 
 // Whether k bytes are n floats.

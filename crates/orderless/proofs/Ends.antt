@@ -8,6 +8,7 @@ use lib.Ieee.{Float, nan, binary64, ofBits, div}
 use lib.ListN.{getD}
 use Rattle.alpha.specs.Weight.{two}
 use Rattle.alpha.specs.declared.Alpha.{Alpha}
+use Rattle.modes.specs.Modes.{repaired}
 use Rattle.rho.specs.Rho.{middle, levelOf, shareC, shareNu, levelBy}
 use Rattle.rho.specs.declared.Share.{Share}
 use Rattle.solver.specs.End.{sumTo, objectiveOf}
@@ -26,15 +27,15 @@ module _ (n : ℕ) (f : List Float) (y : List ℕ) (w : ℕ → Alpha) (v : ℕ 
   share-c zero l = refl
   share-c (suc a) l = rw (weights a (omega arith), slopes a (omega arith), share-c a (omega arith))
 
-  share-nu : (label a : ℕ) → a ≤ n → shareNu n f y label a ≡ shareNuOf y w v label a
+  share-nu : (r : Bool) (label a : ℕ) → a ≤ n → shareNu r n f y label a ≡ shareNuOf y w v r label a
   unfolding shareNu shareNuOf
-  share-nu label zero l = refl
-  share-nu label (suc a) l = rw (weights a (omega arith), slopes a (omega arith), share-nu label a (omega arith))
+  share-nu r label zero l = refl
+  share-nu r label (suc a) l = rw (weights a (omega arith), slopes a (omega arith), share-nu r label a (omega arith))
 
-  level-same : (nu : Bool) → levelBy nu n f y n ≡ levelFor y w v nu n
+  level-same : (nu x : Bool) → levelBy nu x n f y n ≡ levelFor y w v nu x n
   unfolding levelBy levelFor
-  level-same true = ap₂ (λ (a b : Share). levelOf (middle a) (middle b)) (share-nu 1 n (omega arith)) (share-nu 0 n (omega arith))
-  level-same false = ap (λ (a : Share). record { rho = middle a; r = ofBits binary64 0 }) (share-c n (omega arith))
+  level-same true x = ap₂ (λ (a b : Share). levelOf (middle a) (middle b)) (share-nu x 1 n (omega arith)) (share-nu x 0 n (omega arith))
+  level-same false x = ap (λ (a : Share). record { rho = middle a; r = ofBits binary64 0 }) (share-c n (omega arith))
 
   sum-same : (x term : ℕ → Float) → ((k : ℕ) → k < n → getD f (2 * n + k) nan ≡ x k) → ((k : ℕ) → k < n → getD f (4 * n + k) nan ≡ term k)
       → (a : ℕ) → a ≤ n → sumTo n f a ≡ sumOf x v term a
@@ -43,8 +44,8 @@ module _ (n : ℕ) (f : List Float) (y : List ℕ) (w : ℕ → Alpha) (v : ℕ 
   sum-same x term X T (suc a) l = rw (X a (omega arith), T a (omega arith), slopes a (omega arith), sum-same x term X T a (omega arith))
 
 module _ (g : Given) (m u y : List ℕ) (top : Bool → Float) (b : List Float) (C : Lent g m u y top b) (term : ℕ → Float) (f : List Float) (o : Sheet) (M : Mirrors g m u y top term f o) where
-  pub level-is : levelBy (g .nu) (g .n) f y (g .n) ≡ levelIn g m y top o
-  level-is = level-same (g .n) f y (alphaOf y top o) (slope g m y top o) (alpha-is g m u y top b C term f o M) (slope-is g m u y top b C term f o M) (g .nu)
+  pub level-is : levelBy (g .nu) (repaired (g .mode)) (g .n) f y (g .n) ≡ levelIn g m y top o
+  level-is = level-same (g .n) f y (alphaOf y top o) (slope g m y top o) (alpha-is g m u y top b C term f o M) (slope-is g m u y top b C term f o M) (g .nu) (repaired (g .mode))
 
   pub objective-is : objectiveOf (g .n) f ≡ objectiveIn g m y top o term
   objective-is =

@@ -4,6 +4,7 @@ use mathlib.Core.Bool.{Bool, false, cond}
 use mathlib.Core.List.{List}
 use mathlib.Core.Path.{_≡_}
 use lib.Ieee.{Float}
+use Rattle.modes.specs.Modes.{repaired}
 use Rattle.rho.specs.Rho.{levelBy}
 use Rattle.solver.specs.End.{trained, objectiveOf}
 use Rattle.solver.specs.Run.{problemOf, Full}
@@ -44,7 +45,7 @@ module _ (g : Given) (m u y : List ℕ) (top : Bool → Float) (b : List Float) 
     pub labels : w .state .labels ≡ y
     pub weights : (k : ℕ) → k < g .n → alpha (problemOf g m) (w .state) k .value ≡ o .weights k
     pub gradients : (k : ℕ) → k < g .n → gradient (problemOf g m) (w .state) k ≡ slope g m y top o k
-    pub level : levelBy (g .nu) (g .n) (w .state .floats) (w .state .labels) (g .n) ≡ levelIn g m y top o
+    pub level : levelBy (g .nu) (repaired (g .mode)) (g .n) (w .state .floats) (w .state .labels) (g .n) ≡ levelIn g m y top o
     pub objective : objectiveOf (g .n) (w .state .floats) ≡ objectiveIn g m y top o term
 
   pub equal : Equal

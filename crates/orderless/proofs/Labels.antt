@@ -21,6 +21,7 @@ use Rattle.extreme.specs.declared.Found.the-variants.{At, Nobody}
 use Rattle.extreme.proofs.Alike.{over-alike, best-eligible}
 use Rattle.partner.specs.Second.{placeOf, paired, pairedWith}
 use Rattle.partner.proofs.Rule.{not-optimal}
+use Rattle.modes.specs.Modes.{repaired}
 use Rattle.rho.specs.Rho.{positiveIn, middle, levelOf}
 use Rattle.rho.specs.declared.Share.{Share}
 use Rattle.solver.specs.declared.Given.{Given}
@@ -193,17 +194,17 @@ module _ (g : Given) (m y z : List ℕ) (top : Bool → Float) (E : (k : ℕ) �
     share-c-alike zero h = refl
     share-c-alike (suc a) h = rw (share-c-alike a (omega arith), pos a (omega arith))
 
-    share-nu-alike : (label a : ℕ) → a ≤ g .n → shareNuOf y (alphaOf y top o) (slope g m y top o) label a ≡ shareNuOf z (alphaOf z top o) (slope g m z top o) label a
+    share-nu-alike : (r : Bool) (label a : ℕ) → a ≤ g .n → shareNuOf y (alphaOf y top o) (slope g m y top o) r label a ≡ shareNuOf z (alphaOf z top o) (slope g m z top o) r label a
     unfolding shareNuOf
-    share-nu-alike label zero h = refl
-    share-nu-alike label (suc a) h = rw (share-nu-alike label a (omega arith), pos a (omega arith), E a (omega arith))
+    share-nu-alike r label zero h = refl
+    share-nu-alike r label (suc a) h = rw (share-nu-alike r label a (omega arith), pos a (omega arith), E a (omega arith))
 
     pub level-alike : levelIn g m y top o ≡ levelIn g m z top o
     unfolding levelFor
     level-alike = go (g .nu)
       where
-        go : (x : Bool) → levelFor y (alphaOf y top o) (slope g m y top o) x (g .n) ≡ levelFor z (alphaOf z top o) (slope g m z top o) x (g .n)
-        go true = ap₂ (λ (a b : Share). levelOf (middle a) (middle b)) (share-nu-alike 1 (g .n) (omega arith)) (share-nu-alike 0 (g .n) (omega arith))
+        go : (x : Bool) → levelFor y (alphaOf y top o) (slope g m y top o) x (repaired (g .mode)) (g .n) ≡ levelFor z (alphaOf z top o) (slope g m z top o) x (repaired (g .mode)) (g .n)
+        go true = ap₂ (λ (a b : Share). levelOf (middle a) (middle b)) (share-nu-alike (repaired (g .mode)) 1 (g .n) (omega arith)) (share-nu-alike (repaired (g .mode)) 0 (g .n) (omega arith))
         go false = ap (λ (a : Share). record { rho = middle a; r = ofBits binary64 0 }) (share-c-alike (g .n) (omega arith))
 
     sum-alike : (term : ℕ → Float) (a : ℕ) → a ≤ g .n → sumOf (o .weights) (slope g m y top o) term a ≡ sumOf (o .weights) (slope g m z top o) term a

@@ -265,5 +265,5 @@ module _ (g : Given) (m y : List ℕ) (top : Bool → Float) (l : List Float) (l
           ∙ one-last z x _ _ _ _ (put-weight n l i I (positiveIn y i) wi (own y top o i) nu long k K x);
     }
 
-    pub steps-mirror : Mirrors g m u y top term (updated (problemOf g m) b (g .floor) (state f u y) i j n) (readIn nu n (steps g m y top l i j))
+    pub steps-mirror : Mirrors g m u y top term (updated (problemOf g m) b (g .mode) (g .floor) (state f u y) i j n) (readIn nu n (steps g m y top l i j))
     steps-mirror = step-mirrors g m u y top b C term f o M i j I J (readIn nu n (steps g m y top l i j)) steps-moved

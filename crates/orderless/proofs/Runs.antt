@@ -15,7 +15,7 @@ use Rattle.solver.specs.declared.Status.the-variants.{Going, Done}
 use Rattle.solver.proofs.Laws.{chosen-below}
 use Rattle.start.specs.Start.{started}
 use Rattle.state.specs.Lists.{Problem, state}
-use Rattle.trace.proofs.Off.{rebuilt-off, closed-off, counted-off}
+use Rattle.trace.proofs.Off.{refreshed-off, closed-off, counted-off}
 use Rattle.update.specs.Update.{updated}
 use Rattle.orderless.specs.Choice.{choiceIn}
 use Rattle.orderless.specs.Run.{Course, course, passes, goesOn}
@@ -56,7 +56,7 @@ module _ (g : Given) (m u y : List ℕ) (top : Bool → Float) (b : List Float) 
   step-beside : (w : Full) (v : Course) → v .going ≡ true → Beside w v → (i j : ℕ) → i < g .n → j < g .n → Beside (stepped g m b w i j) (passes g m y top v (Pair i j))
   unfolding passes stepped
   step-beside w v h B i j I J = record {
-    floats = updated p b (g .floor) (state (B .floats) u y) i j (g .n);
+    floats = updated p b (g .mode) (g .floor) (state (B .floats) u y) i j (g .n);
     state = rw (B .state, B .active);
     mirrors = steps-mirror g m y top (v .floats) (B .long) i j I J u b C term (B .floats) (B .mirrors);
     long = rw (length-steps g m y top (v .floats) (B .long) i j I J) (B .long);
@@ -70,7 +70,7 @@ module _ (g : Given) (m u y : List ℕ) (top : Bool → Float) (b : List Float) 
   worked-beside w v h B (Pair i j) q =
       let r = rw (B .active) at (chosen-below g m w i j q) in
       step-beside w v h B i j (r .0) (r .1)
-  worked-beside w v h B Optimal q = rw (rebuilt-off g m w (B .active), q) (record {
+  worked-beside w v h B Optimal q = rw (refreshed-off g m w (B .active), q) (record {
     floats = B .floats;
     state = B .state;
     mirrors = B .mirrors;

@@ -13,16 +13,17 @@ use Rattle.alpha.specs.Weight as Weight
 use Rattle.alpha.specs.Weight.{weight, atUpper, atLower}
 use Rattle.alpha.specs.declared.Alpha.{Alpha}
 use Rattle.kernel.specs.Row.{signedOf}
+use Rattle.modes.specs.Modes.{travels}
 use Rattle.partner.specs.Sides.{risesOf, fallsOf, mayRise, fall}
 use Rattle.rho.specs.Rho.{positiveIn}
 use Rattle.rounding.proofs.Order.{holds, neg-neg, lt-le-trans, eq-le, lt-irrefl}
 use Rattle.rounding.proofs.Products.{mul-neg, mul-neg-right}
 use Rattle.solver.specs.Run.{problemOf}
 use Rattle.solver.specs.declared.Given.{Given}
-use Rattle.state.specs.Fields.{gradient, alpha}
+use Rattle.state.specs.Fields.{gradient, alpha, bound}
 use Rattle.state.specs.Lists.{Problem, State, state}
 use Rattle.update.specs.Pair.{pairOf}
-use Rattle.update.specs.Update.{pairAt, updated}
+use Rattle.update.specs.Update.{ceilingIn, ceiling, pairAt, updated}
 use Rattle.update.specs.declared.Pair.{Pair}
 use Rattle.update.proofs.Left.{length-updated, alpha-i, alpha-j, alpha-other, behind, gradient-active}
 use Rattle.orderless.specs.Plain.{plain}
@@ -136,23 +137,32 @@ module _ (g : Given) (m u y : List ℕ) (top : Bool → Float) (b : List Float) 
       let pos = positiveIn y k in
       sym (M .steady k K .same) ∙ ap plain (sym (signed-twice pos (gradient p s k))) ∙ sym (signed-level pos (own y top o k) (fall p s k) (own-level k K))
 
+  -- in every mode a sample's ceiling in a step is its label's
+  ceiling-is : (k : ℕ) → k < g .n → ceiling p (g .mode) b s k ≡ top (positiveIn y k)
+  unfolding ceilingIn
+  ceiling-is k K = go (travels (g .mode))
+    where
+      go : (x : Bool) → cond x (alpha p s k .upper) (bound b k) ≡ top (positiveIn y k)
+      go true = M .uppers k K
+      go false = C .bounds k K
+
   module _ (i j : ℕ) (I : i < g .n) (J : j < g .n) where
     pair-by : (x x' z z' : Alpha) (gi gi' gj gj' di di' dj dj' r r' : Float) (a a' : Bool)
         → x ≡ x' → z ≡ z' → gi ≡ gi' → gj ≡ gj' → di ≡ di' → dj ≡ dj' → r ≡ r' → a ≡ a'
         → pairOf x z gi gj di dj r a (g .floor) ≡ pairOf x' z' gi' gj' di' dj' r' a' (g .floor)
     pair-by x x' z z' gi gi' gj gj' di di' dj dj' r r' a a' q1 q2 q3 q4 q5 q6 q7 q8 = rw (q1, q2, q3, q4, q5, q6, q7, q8)
 
-    pair-same : pairAt p b (g .floor) s i j ≡ pairFor g m y top o i j
+    pair-same : pairAt p b (g .mode) (g .floor) s i j ≡ pairFor g m y top o i j
     unfolding pairAt pairFor
     pair-same =
-        pair-by _ _ _ _ _ _ _ _ _ _ _ _ _ _ _ _ (ap₂ weight (M .weights i I) (C .bounds i I)) (ap₂ weight (M .weights j J) (C .bounds j J))
+        pair-by _ _ _ _ _ _ _ _ _ _ _ _ _ _ _ _ (ap₂ weight (M .weights i I) (ceiling-is i I)) (ap₂ weight (M .weights j J) (ceiling-is j J))
         (slope-is i I) (slope-is j J) (diagonal-is g m u y top b C term f o M i I) (diagonal-is g m u y top b C term f o M j J) (C .rows i j I J) (C .labels i j I J)
 
     abbrev q : Pair
     q = pairFor g m y top o i j
 
     abbrev f1 : List Float
-    f1 = updated p b (g .floor) s i j (g .n)
+    f1 = updated p b (g .mode) (g .floor) s i j (g .n)
 
     abbrev s1 : State
     s1 = state f1 u y
@@ -178,8 +188,8 @@ module _ (g : Given) (m u y : List ℕ) (top : Bool → Float) (b : List Float) 
 
     gradient-is : (k : ℕ) → k < g .n → gradient p s1 k ≡ add binary64 (gradient p s k) (add binary64 (part i k xi) (part j k xj))
     gradient-is k K =
-        gradient-active p b (g .floor) s i j (g .n) I J (omega arith) (M .long) k K
-        ∙ moved-by (pairAt p b (g .floor) s i j) q _ _ _ _ _ _ _ _ _ pair-same (M .weights i I) (M .weights j J) (C .rows i k I K) (C .rows j k J K)
+        gradient-active p b (g .mode) (g .floor) s i j (g .n) I J (omega arith) (M .long) k K
+        ∙ moved-by (pairAt p b (g .mode) (g .floor) s i j) q _ _ _ _ _ _ _ _ _ pair-same (M .weights i I) (M .weights j J) (C .rows i k I K) (C .rows j k J K)
 
     fall-level : (k : ℕ) → k < g .n → plain (fall p s1 k) ≡ plain (add binary64 (fall p s k) (d k))
     unfolding change
@@ -205,10 +215,10 @@ module _ (g : Given) (m u y : List ℕ) (top : Bool → Float) (b : List Float) 
 
     alpha-new : (k : ℕ) → k < g .n → (z : Dec (k ≡ j)) (x : Dec (k ≡ i)) → alpha p s1 k ≡ newly k z x
     alpha-new k K (yes z) x =
-        rw z (alpha-j p b (g .floor) s i j (g .n) I J (omega arith) (M .long) ∙ ap₂ weight (ap (λ (v : Pair). v .j .value) pair-same) (C .bounds j J))
+        rw z (alpha-j p b (g .mode) (g .floor) s i j (g .n) I J (omega arith) (M .long) ∙ ap₂ weight (ap (λ (v : Pair). v .j .value) pair-same) (ceiling-is j J))
     alpha-new k K (no z) (yes x) =
-        rw x (alpha-i p b (g .floor) s i j (g .n) I J (omega arith) (M .long) (λ e. z (x ∙ e)) ∙ ap₂ weight (ap (λ (v : Pair). v .i .value) pair-same) (C .bounds i I))
-    alpha-new k K (no z) (no x) = alpha-other p b (g .floor) s i j (g .n) I J (omega arith) (M .long) k K x z
+        rw x (alpha-i p b (g .mode) (g .floor) s i j (g .n) I J (omega arith) (M .long) (λ e. z (x ∙ e)) ∙ ap₂ weight (ap (λ (v : Pair). v .i .value) pair-same) (ceiling-is i I))
+    alpha-new k K (no z) (no x) = alpha-other p b (g .mode) (g .floor) s i j (g .n) I J (omega arith) (M .long) k K x z
 
     upper-new : (k : ℕ) → k < g .n → (z : Dec (k ≡ j)) (x : Dec (k ≡ i)) → newly k z x .upper ≡ top (positiveIn y k)
     upper-new k K (yes z) x = rw z
@@ -261,7 +271,7 @@ module _ (g : Given) (m u y : List ℕ) (top : Bool → Float) (b : List Float) 
           ap (λ (w : Alpha). w .value) (alpha-new k K z x) ∙ value-new k K z x ∙ sym (N .weights k K z x);
       uppers = λ k K. ap (λ (w : Alpha). w .upper) (alpha-new k K (ℕ-discrete k j) (ℕ-discrete k i)) ∙ upper-new k K (ℕ-discrete k j) (ℕ-discrete k i);
       steady = λ k K. rw (gradient-is k K) (steady-add (gradient p s k) _ (M .steady k K) (add-fits binary64 _ _));
-      diagonals = λ k K. behind p b (g .floor) s i j (g .n) I J (omega arith) (M .long) (5 * g .n + k) (omega arith) ∙ M .diagonals k K;
-      terms = λ k K. behind p b (g .floor) s i j (g .n) I J (omega arith) (M .long) (4 * g .n + k) (omega arith) ∙ M .terms k K;
-      long = rw (length-updated p b (g .floor) s i j (g .n)) (M .long);
+      diagonals = λ k K. behind p b (g .mode) (g .floor) s i j (g .n) I J (omega arith) (M .long) (5 * g .n + k) (omega arith) ∙ M .diagonals k K;
+      terms = λ k K. behind p b (g .mode) (g .floor) s i j (g .n) I J (omega arith) (M .long) (4 * g .n + k) (omega arith) ∙ M .terms k K;
+      long = rw (length-updated p b (g .mode) (g .floor) s i j (g .n)) (M .long);
     }

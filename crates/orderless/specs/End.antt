@@ -7,6 +7,7 @@ use lib.Ieee.{Float, binary64, ofBits, add, mul, div}
 use lib.ListN.{getD}
 use Rattle.alpha.specs.Weight.{two}
 use Rattle.alpha.specs.declared.Alpha.{Alpha}
+use Rattle.modes.specs.Modes.{repaired}
 use Rattle.rho.specs.Rho.{noShare, shareWithC, joinedNu, signed, middle, levelOf, positiveIn}
 use Rattle.rho.specs.declared.Level.{Level}
 use Rattle.rho.specs.declared.Share.{Share}
@@ -20,12 +21,12 @@ module _ (y : List ℕ) (w : ℕ → Alpha) (v : ℕ → Float) where
   shareCOf (suc k) = shareWithC (positiveIn y k) (w k) (signed (positiveIn y k) (v k)) (shareCOf k)
 
   -- of the samples of one label, 1 or 0
-  unfoldable pub shareNuOf : ℕ → ℕ → Share
-  shareNuOf label zero = noShare
-  shareNuOf label (suc k) = joinedNu (eqb (getD y k 0) label) (w k) (v k) (shareNuOf label k)
+  unfoldable pub shareNuOf : Bool → ℕ → ℕ → Share
+  shareNuOf x label zero = noShare
+  shareNuOf x label (suc k) = joinedNu x (eqb (getD y k 0) label) (w k) (v k) (shareNuOf x label k)
 
-  unfoldable pub levelFor : Bool → ℕ → Level
-  levelFor nu n = cond nu (levelOf (middle (shareNuOf 1 n)) (middle (shareNuOf 0 n))) (record { rho = middle (shareCOf n); r = ofBits binary64 0 })
+  unfoldable pub levelFor : Bool → Bool → ℕ → Level
+  levelFor nu x n = cond nu (levelOf (middle (shareNuOf x 1 n)) (middle (shareNuOf x 0 n))) (record { rho = middle (shareCOf n); r = ofBits binary64 0 })
 
 -- the sum of weight·(gradient + linear term), in order
 unfoldable pub sumOf : (ℕ → Float) → (ℕ → Float) → (ℕ → Float) → ℕ → Float
@@ -34,7 +35,7 @@ sumOf a v term (suc k) = add binary64 (sumOf a v term k) (mul binary64 (a k) (ad
 
 module _ (g : Given) (m y : List ℕ) (top : Bool → Float) (o : Sheet) where
   abbrev pub levelIn : Level
-  levelIn = levelFor y (alphaOf y top o) (slope g m y top o) (g .nu) (g .n)
+  levelIn = levelFor y (alphaOf y top o) (slope g m y top o) (g .nu) (repaired (g .mode)) (g .n)
 
   abbrev pub objectiveIn : (ℕ → Float) → Float
   objectiveIn term = div binary64 (sumOf (o .weights) (slope g m y top o) term (g .n)) two

@@ -12,6 +12,7 @@ use Rattle.fits.specs.Load.{loadedFloats, loadedNumbers, loadedLabels, loaded}
 use Rattle.fits.proofs.Loaded.{length-floats, length-numbers, length-labels}
 use Rattle.lists.specs.Filled.{filledTo}
 use Rattle.lists.proofs.Later.{prefix-later, length-filled, filled-later}
+use Rattle.modes.specs.Modes.{repaired}
 use Rattle.reconstruct.specs.Reconstruct.{reconstructed}
 use Rattle.solver.specs.End.{trained}
 use Rattle.solver.specs.Run.{problemOf}
@@ -91,11 +92,11 @@ module _ (g : Given) (m : List ℕ) (b : List Float) (s : State) (room-f : 7 * g
   abbrev P : State → Type 0
   P = Scratch (g .n) s
 
-  on-rebuilt : (t : State) (a : ℕ) → a ≤ g .n → P t → P (over t (reconstructed p a t))
+  on-rebuilt : (t : State) (a : ℕ) → a ≤ g .n → P t → P (over t (reconstructed p (repaired (g .mode)) a t))
   on-rebuilt t a l k = record {
     floats = beyond-trans nan (7 * g .n) (k .floats) (record {
-      long = same-reconstructed p a l 0 t .long;
-      at = λ j h. same-reconstructed p a l (suc j) t .at j (omega arith) (omega arith);
+      long = same-reconstructed p (repaired (g .mode)) a l 0 t .long;
+      at = λ j h. same-reconstructed p (repaired (g .mode)) a l (suc j) t .at j (omega arith) (omega arith);
     });
     numbers = k .numbers;
     labels = k .labels;
@@ -123,13 +124,13 @@ module _ (g : Given) (m : List ℕ) (b : List Float) (s : State) (room-f : 7 * g
         });
       }
 
-  on-pair : (t : State) (i j a : ℕ) → i < a → j < a → a ≤ g .n → (i ≡ j → ⊥) → P t → P (updatedState p b (g .floor) t i j a)
+  on-pair : (t : State) (i j a : ℕ) → i < a → j < a → a ≤ g .n → (i ≡ j → ⊥) → P t → P (updatedState p b (g .mode) (g .floor) t i j a)
   on-pair t i j a x y l e k =
       let lf = k .floats .long in
       record {
         floats = beyond-trans nan (7 * g .n) (k .floats) (record {
-          long = length-updated p b (g .floor) t i j a;
-          at = λ q h. behind p b (g .floor) t i j a (omega arith) (omega arith) l (omega arith) q (omega arith);
+          long = length-updated p b (g .mode) (g .floor) t i j a;
+          at = λ q h. behind p b (g .mode) (g .floor) t i j a (omega arith) (omega arith) l (omega arith) q (omega arith);
         });
         numbers = k .numbers;
         labels = k .labels;

@@ -78,7 +78,7 @@ module _ (tune : Tuning) (n : ℕ) (m l : List ℕ) (c a p : List Float) (nurule
 
 -- ---- C: one cost for both labels
 
-same-cost : (c : Float) (b : Bool) → cond b c c ≡ c
+pub same-cost : (c : Float) (b : Bool) → cond b c c ≡ c
 same-cost c true = refl
 same-cost c false = refl
 

@@ -12,17 +12,20 @@ use Rattle.answer.specs.declared.Answer.{Answer}
 use Rattle.answer.specs.declared.Outcome.the-variants.{Accepted}
 use Rattle.classification.specs.Entries.{sizesOf, fitted, generalTunedSized, generalTuned, fitCTunedSized, fitCTuned, fitNuTunedSized, fitNuTuned, fitOneClassTunedSized, fitOneClassTuned}
 use Rattle.classification.proofs.Laws.{usable-general, usable-c, usable-nu, usable-one-class}
-use Rattle.fits.specs.Starts.{nothing, evenly, allPositive}
+use Rattle.fits.specs.Starts.{nothing, evenly, allPositive, costOf}
+use Rattle.fits.proofs.Starts.{cost-at}
 use Rattle.judge.specs.Judge.{generalJudged, cJudged, nuJudged, oneClassJudged, floorGood, floorJudged}
 use Rattle.judge.specs.declared.Judged.the-variants.{Fine}
 use Rattle.judge.proofs.Accepted.{floor-fine}
 use Rattle.judge.proofs.Lengths.{room-of}
-use Rattle.travel.specs.Travel.{Travelled}
+use Rattle.modes.specs.Modes.{travels}
+use Rattle.state.specs.Fields.{sample}
+use Rattle.travel.specs.Travel.{Travelled, OwnCeilings}
 use Rattle.promises.specs.Fit.{Fit, generalFit, cFit, nuFit, oneClassFit, after, ownWeight}
 use Rattle.classification.proofs.Accepts.{entered-in, decided-in}
 use Rattle.tuning.specs.declared.Tuning.{Tuning}
 use Rattle.promises.proofs.Home.{served-home}
-use Rattle.promises.proofs.Travel.{Served, served-travels}
+use Rattle.promises.proofs.Travel.{Served, served-travels, served-ceilings}
 
 -- the fit k over the lent lists
 abbrev fittedTo : Fit → List ℕ → ℕ → Lent → Whole
@@ -65,6 +68,9 @@ module _ (tune : Tuning) (n : ℕ) (m l : List ℕ) (c a p : List Float) (nurule
   pub general-travels : (t : ℕ) → Travelled n (λ s. getD l s 0) (λ s. getD p s nan) (after (generalFit tune n l c a p nurule eps shrinking) m d t .state)
   general-travels = served-travels general-served
 
+  pub general-ceilings : travels (tune .mode) ≡ true → (t : ℕ) → OwnCeilings n (λ s. getD c s nan) (after (generalFit tune n l c a p nurule eps shrinking) m d t .state)
+  general-ceilings = served-ceilings general-served
+
 -- ---- C
 
 module _ (tune : Tuning) (n : ℕ) (m l : List ℕ) (cpos cneg eps : Float) (shrinking : Bool) (budget : ℕ) (d : Lent) (x : Answer) (e : fitCTuned tune n m l cpos cneg eps shrinking budget d .out ≡ Accepted x) where
@@ -98,6 +104,12 @@ module _ (tune : Tuning) (n : ℕ) (m l : List ℕ) (cpos cneg eps : Float) (shr
   -- after each number of passes
   pub c-travels : (t : ℕ) → Travelled n (λ s. getD l s 0) (λ s. getD (evenly minusOne n) s nan) (after (cFit tune n l cpos cneg eps shrinking) m d t .state)
   c-travels = served-travels c-served
+
+  -- a position's ceiling is that of its sample's label
+  pub c-ceilings : travels (tune .mode) ≡ true → (t : ℕ) → OwnCeilings n (λ s. costOf cpos cneg (getD l s 0)) (after (cFit tune n l cpos cneg eps shrinking) m d t .state)
+  c-ceilings h t k z =
+      let w = after (cFit tune n l cpos cneg eps shrinking) m d t .state in
+      served-ceilings c-served h t k z ∙ cost-at n (sample w k) (c-served .room .most) (c-travels t .order .within .below k z) cpos cneg l
 
 -- ---- nu
 

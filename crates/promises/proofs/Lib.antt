@@ -4,6 +4,7 @@ pub mod Box
 pub mod Entries
 pub mod Starts
 pub mod Boxes
+pub mod Modes
 pub mod Numbers
 pub mod Alike
 pub mod Retired

@@ -149,7 +149,7 @@ module _ {tune : Tuning} {n : ℕ} {r : List ℕ} {nurule : Bool} {eps : Float} 
 
   owned : Owned (problemOf (k .given) m) (last .state)
   owned =
-      runs-keep (standsIn r) (k .given) m (y .ceilings) (Owned (problemOf (k .given) m)) (λ s i j hi hj q. owned-updated (problemOf (k .given) m) (y .ceilings) (k .given .floor) q i j n hi hj (omega arith))
+      runs-keep (standsIn r) (k .given) m (y .ceilings) (Owned (problemOf (k .given) m)) (λ s i j hi hj q. owned-updated (problemOf (k .given) m) (y .ceilings) (k .given .mode) (k .given .floor) q i j n hi hj (omega arith))
       first budget (record { kept = owned-started (problemOf (k .given) m) (y .ceilings) (taken-ready v); active = refl }) .kept
 
   stop : NoPair (standsIn r) (k .given) m (last .state) n

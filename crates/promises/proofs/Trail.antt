@@ -1,7 +1,7 @@
 -- A finger on one weight: each step leaves what the pair finder says (`..-found`); a longer run begins with the shorter one (`run-begins`,
 -- `steps-begin`); and with shrinking off home has the weights after as many passes as the budget has (`..-trail`). Assumes nothing.
 use Prim.Native.Nat.{ℕ, suc, _+_, _*_, _≤_, _<_}
-use mathlib.Core.Bool.{Bool, true, false}
+use mathlib.Core.Bool.{Bool, true, false, cond}
 use mathlib.Core.List.{List, _++_}
 use mathlib.Core.Path.{_≡_, refl, sym, ap, ap₂, _∙_}
 use native.Mathlib.Omega.{arith}
@@ -22,12 +22,14 @@ use Rattle.finder.specs.Found.{foundPair}
 use Rattle.fits.proofs.Loaded.{weight-loaded, sample-loaded, index-loaded}
 use Rattle.kernel.specs.Matrix.{entryAt}
 use Rattle.kernel.specs.Row.{kernelIndex, rowAt}
+use Rattle.modes.specs.Modes.{travels}
+use Rattle.modes.specs.declared.Mode.{Mode}
 use Rattle.readings.specs.Order.{weightIn}
 use Rattle.solver.specs.End.{trained}
 use Rattle.solver.specs.Pass.{countedDown, passed, next, runs}
 use Rattle.solver.specs.Run.{problemOf, Full, goes}
 use Rattle.solver.specs.declared.Given.{Given}
-use Rattle.state.specs.Fields.{gradient, alpha, diagonal, row, sample}
+use Rattle.state.specs.Fields.{gradient, alpha, diagonal, row, bound, sample}
 use Rattle.state.specs.Lists.{Problem, State}
 use Rattle.trace.specs.Trace.{Step, lookAt, stepAt, startOf}
 use Rattle.trace.proofs.Kept.{Keeps}
@@ -35,7 +37,7 @@ use Rattle.trace.proofs.Left.{each-step, step-left}
 use Rattle.trace.proofs.Off.{closed-off, step-off}
 use Rattle.trace.proofs.Rests.{same-started}
 use Rattle.trace.proofs.Trace.{runs-more, traced-more}
-use Rattle.update.specs.Update.{pairAt, updatedState}
+use Rattle.update.specs.Update.{ceilingIn, ceiling, pairAt, updatedState}
 use Rattle.update.specs.declared.Pair as Update
 use Rattle.update.proofs.Left.{alpha-i, alpha-j, alpha-other, gradient-active}
 use Rattle.tuning.specs.Tuning.{plainTuning}
@@ -45,7 +47,7 @@ use Rattle.promises.proofs.Alike.{home-own}
 use Rattle.promises.proofs.Entries.{general-served, c-served, nu-served, one-class-served}
 use Rattle.promises.proofs.Home.{served-at}
 use Rattle.promises.proofs.Iterations.{served-iterations}
-use Rattle.promises.proofs.Travel.{Served, ready-start, served-travels}
+use Rattle.promises.proofs.Travel.{Served, ready-start, served-travels, served-ceilings}
 
 -- ---- a longer run begins with the shorter one, whatever is trained, with shrinking on or off
 
@@ -56,11 +58,11 @@ module _ (k : Fit) (m : List ℕ) (d : Lent) (t u : ℕ) where
   pub steps-begin : stepsTaken k m d (u + t) ≡ stepsTaken k m d t ++ laterSteps k m d t u
   steps-begin = traced-more (k .given) m (k .ceilings) (startOf (k .given) m (k .ceilings) (startFrom k m d)) t u
 
--- ---- each step is the finder's, under the ceilings of the places, with shrinking on or off
+-- ---- each step is the finder's, under the ceilings of the mode, with shrinking on or off
 
-found-at : (p : Problem) (b : List Float) (s : State) (i j : ℕ) → pairAt p b floor s i j ≡ foundAt p b s i j
+found-at : (p : Problem) (mode : Mode) (b : List Float) (s : State) (i j : ℕ) → pairAt p b mode floor s i j ≡ foundAt p mode b s i j
 unfolding pairAt foundPair
-found-at p b s i j = refl
+found-at p mode b s i j = refl
 
 module _ {k : Fit} {m : List ℕ} {budget : ℕ} {d : Lent} {o : Whole} (v : Served k m budget d o) where
   pub served-found : k .given .floor ≡ floor → (q : ℕ) → q < length (stepsTaken k m d budget) → FoundStep k m d budget q
@@ -71,7 +73,7 @@ module _ {k : Fit} {m : List ℕ} {budget : ℕ} {d : Lent} {o : Whole} (v : Ser
       let e = each-step g m (k .ceilings) _ budget q noStep h in
       let w = runs-owned g m (k .ceilings) q (startFrom k m d) (ready-start v) in
       let l = step-left g m (k .ceilings) (after k m d q) (x .i) (x .j) (w .active) (w .kept .ready .floats) (e .pair) in
-      let z = ap (λ (f : Float). pairAt (problemOf g m) (k .ceilings) f s (x .i) (x .j)) plain ∙ found-at (problemOf g m) (k .ceilings) s (x .i) (x .j) in (
+      let z = ap (λ (f : Float). pairAt (problemOf g m) (k .ceilings) (g .mode) f s (x .i) (x .j)) plain ∙ found-at (problemOf g m) (g .mode) (k .ceilings) s (x .i) (x .j) in (
         ap (λ (y : Step). y .leftI) (e .is) ∙ l .pair-i ∙ ap (λ (q : Update.Pair). q .i .value) z,
         ap (λ (y : Step). y .leftJ) (e .is) ∙ l .pair-j ∙ ap (λ (q : Update.Pair). q .j .value) z,
       )
@@ -114,6 +116,14 @@ module _ {k : Fit} {m : List ℕ} {budget : ℕ} {d : Lent} {o : Whole} (v : Ser
   unfolding rowAt
   own-row t i j h l = rw (own-index t i h, own-index t j l, own-label t i h, own-label t j l, v .square)
 
+  own-ceiling : (t i : ℕ) → i < g .n → ceiling p (g .mode) (k .ceilings) (after k m d t .state) i ≡ bound (k .ceilings) i
+  unfolding ceilingIn
+  own-ceiling t i h = go (travels (g .mode)) refl
+    where
+      go : (x : Bool) → travels (g .mode) ≡ x → cond x (alpha p (after k m d t .state) i .upper) (bound (k .ceilings) i) ≡ bound (k .ceilings) i
+      go true e = served-ceilings v e t i h ∙ ap (bound (k .ceilings)) (own-sample t i h)
+      go false e = refl
+
   -- ---- a step
 
   module _ (plain : g .floor ≡ floor) (t i j : ℕ) (going : goes (after k m d t .run .status) ≡ true) (pair : pairAfter k m d t ≡ Pair i j) where
@@ -131,26 +141,26 @@ module _ {k : Fit} {m : List ℕ} {budget : ℕ} {d : Lent} {o : Whole} (v : Ser
         let z = e .below in
         (omega arith, omega arith, e .apart)
 
-    passes : after k m d (suc t) .state ≡ updatedState p (k .ceilings) (g .floor) s i j (g .n)
+    passes : after k m d (suc t) .state ≡ updatedState p (k .ceilings) (g .mode) (g .floor) s i j (g .n)
     unfolding runs next
     passes = rw going (step-off g m off (k .ceilings) (after k m d t) i j (still t .active) pair)
 
-    pair-found : pairAt p (k .ceilings) (g .floor) s i j ≡ foundAfter k m d t i j
+    pair-found : pairAt p (k .ceilings) (g .mode) (g .floor) s i j ≡ foundAfter k m d t i j
     unfolding pairAt foundAfter foundPair
     pair-found =
         let h = bounds .0 in
         let l = bounds .1 in
-        rw (own-diagonal t i h, own-diagonal t j l, own-row t i j h l, own-label t i h, own-label t j l, plain)
+        rw (own-ceiling t i h, own-ceiling t j l, own-diagonal t i h, own-diagonal t j l, own-row t i j h l, own-label t i h, own-label t j l, plain)
 
-    left-i : weightAfter k m d (suc t) i ≡ pairAt p (k .ceilings) (g .floor) s i j .i .value
+    left-i : weightAfter k m d (suc t) i ≡ pairAt p (k .ceilings) (g .mode) (g .floor) s i j .i .value
     left-i =
         ap (λ (z : State). alpha p z i .value) passes
-        ∙ ap (λ a. a .value) (alpha-i p (k .ceilings) (g .floor) s i j (g .n) (bounds .0) (bounds .1) (omega arith) room (bounds .2))
+        ∙ ap (λ a. a .value) (alpha-i p (k .ceilings) (g .mode) (g .floor) s i j (g .n) (bounds .0) (bounds .1) (omega arith) room (bounds .2))
 
-    left-j : weightAfter k m d (suc t) j ≡ pairAt p (k .ceilings) (g .floor) s i j .j .value
+    left-j : weightAfter k m d (suc t) j ≡ pairAt p (k .ceilings) (g .mode) (g .floor) s i j .j .value
     left-j =
         ap (λ (z : State). alpha p z j .value) passes
-        ∙ ap (λ a. a .value) (alpha-j p (k .ceilings) (g .floor) s i j (g .n) (bounds .0) (bounds .1) (omega arith) room)
+        ∙ ap (λ a. a .value) (alpha-j p (k .ceilings) (g .mode) (g .floor) s i j (g .n) (bounds .0) (bounds .1) (omega arith) room)
 
     pub served-steps : StepsWith k m d t i j
     served-steps = record {
@@ -161,10 +171,10 @@ module _ {k : Fit} {m : List ℕ} {budget : ℕ} {d : Lent} {o : Whole} (v : Ser
       left-j = left-j ∙ ap (λ (q : Update.Pair). q .j .value) pair-found;
       others = λ q h x y.
           ap (λ (z : State). alpha p z q .value) passes
-          ∙ ap (λ a. a .value) (alpha-other p (k .ceilings) (g .floor) s i j (g .n) (bounds .0) (bounds .1) (omega arith) room q h x y);
+          ∙ ap (λ a. a .value) (alpha-other p (k .ceilings) (g .mode) (g .floor) s i j (g .n) (bounds .0) (bounds .1) (omega arith) room q h x y);
       carried = λ q h.
           ap (λ (z : State). gradient p z q) passes
-          ∙ gradient-active p (k .ceilings) (g .floor) s i j (g .n) (bounds .0) (bounds .1) (omega arith) room q h
+          ∙ gradient-active p (k .ceilings) (g .mode) (g .floor) s i j (g .n) (bounds .0) (bounds .1) (omega arith) room q h
           ∙ ap₂ (λ (x y : Float). add binary64 (gradientAfter k m d t q) (add binary64 x y))
           (ap₂ (mul binary64) (own-row t i q (bounds .0) h) (ap (λ (x : Float). sub binary64 x (weightAfter k m d t i)) (sym left-i)))
           (ap₂ (mul binary64) (own-row t j q (bounds .1) h) (ap (λ (x : Float). sub binary64 x (weightAfter k m d t j)) (sym left-j)));

@@ -11,19 +11,21 @@ use Rattle.answer.specs.Lent.{Lent}
 use Rattle.finder.specs.Found.{foundPair}
 use Rattle.kernel.specs.Matrix.{entryAt}
 use Rattle.kernel.specs.Row.{alikeOf, signedOf}
+use Rattle.modes.specs.declared.Mode.{Mode}
 use Rattle.solver.specs.Pass.{countedDown, runs}
 use Rattle.solver.specs.Run.{problemOf}
 use Rattle.state.specs.Fields.{gradient, alpha, diagonal, row, bound}
 use Rattle.state.specs.Lists.{Problem, State}
 use Rattle.extreme.specs.declared.Choice.the-variants.{Pair as Choose}
 use Rattle.trace.specs.Trace.{Step, lookAt, traced}
+use Rattle.update.specs.Update.{ceiling}
 use Rattle.update.specs.declared.Pair.{Pair}
 use Rattle.promises.specs.Fit.{Fit, after, weightAfter, pairAfter, stepsTaken, rOf}
 
--- what the pair finder says of positions i and j in a state, under the ceilings b of their places
-abbrev pub foundAt : Problem → List Float → State → ℕ → ℕ → Pair
-foundAt p b s i j =
-    foundPair (weight (alpha p s i .value) (bound b i)) (weight (alpha p s j .value) (bound b j)) (gradient p s i) (gradient p s j)
+-- what the pair finder says of positions i and j in a state, under their ceilings there; b are those of the places
+abbrev pub foundAt : Problem → Mode → List Float → State → ℕ → ℕ → Pair
+foundAt p mode b s i j =
+    foundPair (weight (alpha p s i .value) (ceiling p mode b s i)) (weight (alpha p s j .value) (ceiling p mode b s j)) (gradient p s i) (gradient p s j)
     (diagonal p s i) (diagonal p s j) (row p s i j) (eqb (getD (s .labels) i 0) (getD (s .labels) j 0))
 
 -- what is read behind the last step
@@ -71,12 +73,12 @@ module _ (k : Fit) (m : List ℕ) (d : Lent) where
     pub steps : StepsWith q i j
     pub told : getD (stepsTaken k m d budget) q noStep ≡ record { i = i; j = j; sampleI = i; sampleJ = j; leftI = weightAfter k m d (suc q) i; leftJ = weightAfter k m d (suc q) j }
 
-  -- with shrinking on or off: what step q left is what the finder says in the state in which its pair was chosen, under the ceilings of the places
+  -- with shrinking on or off: what step q left is what the finder says in the state in which its pair was chosen, under the ceilings there
   abbrev pub FoundStep : ℕ → ℕ → Type 0
   FoundStep budget q =
       let e = getD (stepsTaken k m d budget) q noStep in
       let s = lookAt (k .given) m (countedDown (k .given) m (after k m d q)) .state in
-      let f = foundAt (problemOf (k .given) m) (k .ceilings) s (e .i) (e .j) in
+      let f = foundAt (problemOf (k .given) m) (k .given .mode) (k .ceilings) s (e .i) (e .j) in
       (e .leftI ≡ f .i .value) × (e .leftJ ≡ f .j .value)
 
   -- what a call with that budget tells with shrinking off, by its iterations and its list home

@@ -1,6 +1,6 @@
 -- The gradients of inactive positions, computed anew (the rule, section 'Reconstruction').
 use Prim.Native.Nat.{ℕ, zero, suc, _+_, _-_, _*_}
-use mathlib.Core.Bool.{cond}
+use mathlib.Core.Bool.{Bool, true, not, _&&_, cond}
 use mathlib.Core.List.{List}
 use lib.Dec.{eqb, ltb}
 use lib.Ieee.{Float, nan, binary64, add, mul}
@@ -26,21 +26,28 @@ unfoldable pub freeTo : ℕ → List Float → ℕ → ℕ
 freeTo n f zero = 0
 freeTo n f (suc k) = counted (alphaIn n f k) (freeTo n f k)
 
+-- g with the weight w times r; where the inner one is asked, only if w is free
+unfoldable pub brought : Bool → Alpha → Float → Float → Float
+brought inner w g r = cond (inner && not (isFree w)) g (add binary64 g (mul binary64 (w .value) r))
+
 -- g with the first m weights, each times row i at its position, added in order
-unfoldable pub weightedTo : Problem → State → ℕ → Float → ℕ → Float
-weightedTo p s i g zero = g
-weightedTo p s i g (suc j) = add binary64 (weightedTo p s i g j) (mul binary64 (alpha p s j .value) (row p s i j))
+unfoldable pub weightedTo : Problem → Bool → State → ℕ → Float → ℕ → Float
+weightedTo p inner s i g zero = g
+weightedTo p inner s i g (suc j) = brought inner (alpha p s j) (weightedTo p inner s i g j) (row p s i j)
 
--- first branch: an inactive position i whose weight w is free gets all a active weights
-unfoldable pub outerBy : Problem → State → ℕ → ℕ → Alpha → List Float
-outerBy p s a i w = cond (isFree w) (set (s .floats) i (weightedTo p s i (getD (s .floats) i nan) a)) (s .floats)
+-- first branch: an inactive position i gets the a active weights; where the inner one isn't asked, only if its own weight w is free
+unfoldable pub gets : Bool → Alpha → Bool
+gets inner w = cond inner true (isFree w)
 
-abbrev pub outerAt : Problem → State → ℕ → ℕ → List Float
-outerAt p s a i = outerBy p s a i (alpha p s i)
+unfoldable pub outerBy : Problem → Bool → State → ℕ → ℕ → Alpha → List Float
+outerBy p inner s a i w = cond (gets inner w) (set (s .floats) i (weightedTo p inner s i (getD (s .floats) i nan) a)) (s .floats)
 
-unfoldable pub outerTo : Problem → ℕ → State → ℕ → List Float
-outerTo p a s zero = s .floats
-outerTo p a s (suc k) = outerAt p (over s (outerTo p a s k)) a (a + k)
+abbrev pub outerAt : Problem → Bool → State → ℕ → ℕ → List Float
+outerAt p inner s a i = outerBy p inner s a i (alpha p s i)
+
+unfoldable pub outerTo : Problem → Bool → ℕ → State → ℕ → List Float
+outerTo p inner a s zero = s .floats
+outerTo p inner a s (suc k) = outerAt p inner (over s (outerTo p inner a s k)) a (a + k)
 
 -- second branch: an active position i whose weight w is free goes to all inactive ones
 unfoldable pub innerBy : Problem → State → ℕ → ℕ → Alpha → List Float
@@ -54,12 +61,13 @@ innerTo p a s zero = s .floats
 innerTo p a s (suc i) = innerAt p (over s (innerTo p a s i)) a i
 
 -- which branch, over whole numbers
-unfoldable pub branched : Problem → ℕ → State → List Float
-branched p a s =
+unfoldable pub branched : Problem → Bool → ℕ → State → List Float
+branched p inner a s =
     cond (ltb (2 * a * (p .n - a)) (freeTo (p .n) (s .floats) a * p .n))
-    (outerTo p a s (p .n - a))
+    (outerTo p inner a s (p .n - a))
     (innerTo p a s a)
 
-unfoldable pub reconstructed : Problem → ℕ → State → List Float
-reconstructed p a s =
-    cond (eqb a (p .n)) (s .floats) (branched p a (over s (freshTo (p .n) a (s .floats) (p .n - a))))
+-- inner says whether the first branch asks the inner sample
+unfoldable pub reconstructed : Problem → Bool → ℕ → State → List Float
+reconstructed p inner a s =
+    cond (eqb a (p .n)) (s .floats) (branched p inner a (over s (freshTo (p .n) a (s .floats) (p .n - a))))

@@ -3,7 +3,7 @@ ghost use mathlib.Core.Path.{_≡_};
 ghost use Prim.Native.Nat.{_+_, _-_, _*_, _≤_, _<_};
 ghost use lib.ListN.{length};
 ghost use Rattle.state.specs.Lists.{problem, state, Ready};
-ghost use Rattle.reconstruct.specs.Reconstruct.{freshTo, counted, freeTo, weightedTo, outerAt, outerTo, innerAt, innerTo, branched, reconstructed};
+ghost use Rattle.reconstruct.specs.Reconstruct.{freshTo, counted, freeTo, brought, gets, weightedTo, outerAt, outerTo, innerAt, innerTo, branched, reconstructed};
 use alpha::Alpha;
 use kernel::Kind;
 
@@ -38,6 +38,24 @@ fn nfree(f: &[f64], n: usize, active: usize) -> usize
     c
 }
 
+// One weight w, times r; where the inner one is asked, only if it is free.
+fn bring(inner: bool, w: Alpha, g: f64, r: f64) -> f64
+    ensures { λ z. ⌜ z ≡ brought inner w g r ⌝ }
+{
+    if inner & !w.free_floating() {
+        g
+    } else {
+        g + w.value * r
+    }
+}
+
+// Whether an inactive position with the weight w gets the active ones.
+fn asked(inner: bool, w: Alpha) -> bool
+    ensures { λ z. ⌜ z ≡ gets inner w ⌝ }
+{
+    if inner { true } else { w.free_floating() }
+}
+
 // g with all active weights, each times row i at its position, added in order.
 fn weighted(
     f: &[f64],
@@ -47,23 +65,26 @@ fn weighted(
     n: usize,
     side: usize,
     kind: Kind,
+    inner: bool,
     active: usize,
     i: usize,
     start: f64,
 ) -> f64
     requires { ⌜ (Ready (problem n side kind (now m)) (state (now f) (now u) (now y))) × (active ≤ n) × (i < n) ⌝ }
-    ensures { λ r. ⌜ r ≡ weightedTo (problem n side kind (now (m .entry))) (state (now (f .entry)) (now (u .entry)) (now (y .entry))) i start active ⌝ }
+    ensures { λ r. ⌜ r ≡ weightedTo (problem n side kind (now (m .entry))) inner (state (now (f .entry)) (now (u .entry)) (now (y .entry))) i start active ⌝ }
 {
     let c = kernel::index_at(u, side, n, i);
     let a = y[i];
     let mut g = start;
     for j in 0..active {
-        g = g + f[2 * n + j] * kernel::reach(kind, m, side, c, a, u, n, y, j);
+        let w = state::alpha_at(f, n, j);
+        let r = kernel::reach(kind, m, side, c, a, u, n, y, j);
+        g = bring(inner, w, g, r);
     }
     g
 }
 
-// First branch, one inactive position: the outer one is asked whether it is free.
+// First branch, one inactive position.
 fn outer(
     f: &mut [f64],
     u: &[u64],
@@ -72,18 +93,19 @@ fn outer(
     n: usize,
     side: usize,
     kind: Kind,
+    inner: bool,
     active: usize,
     i: usize,
 )
     requires { ⌜ (Ready (problem n side kind (now m)) (state (now f) (now u) (now y))) × (active ≤ n) × (i < n) ⌝ }
-    ensures { λ _. ⌜ now (f .exit) ≡ outerAt (problem n side kind (now (m .entry))) (state (now (f .entry)) (now (u .entry)) (now (y .entry))) active i ⌝ }
+    ensures { λ _. ⌜ now (f .exit) ≡ outerAt (problem n side kind (now (m .entry))) inner (state (now (f .entry)) (now (u .entry)) (now (y .entry))) active i ⌝ }
 {
     let w = state::alpha_at(f, n, i);
-    if !w.free_floating() {
+    if !asked(inner, w) {
         return;
     }
     let g = f[i];
-    let z = weighted(f, u, y, m, n, side, kind, active, i, g);
+    let z = weighted(f, u, y, m, n, side, kind, inner, active, i, g);
     f[i] = z;
 }
 
@@ -117,14 +139,15 @@ fn all_outer(
     n: usize,
     side: usize,
     kind: Kind,
+    inner: bool,
     active: usize,
 )
     requires { ⌜ (Ready (problem n side kind (now m)) (state (now f) (now u) (now y))) × (active ≤ n) ⌝ }
-    ensures { λ _. ⌜ now (f .exit) ≡ outerTo (problem n side kind (now (m .entry))) active (state (now (f .entry)) (now (u .entry)) (now (y .entry))) (n - active) ⌝ }
+    ensures { λ _. ⌜ now (f .exit) ≡ outerTo (problem n side kind (now (m .entry))) inner active (state (now (f .entry)) (now (u .entry)) (now (y .entry))) (n - active) ⌝ }
 {
     let count = n - active;
     for k in 0..count {
-        outer(f, u, y, m, n, side, kind, active, active + k);
+        outer(f, u, y, m, n, side, kind, inner, active, active + k);
     }
 }
 
@@ -154,14 +177,15 @@ fn branch(
     n: usize,
     side: usize,
     kind: Kind,
+    inner: bool,
     active: usize,
 )
     requires { ⌜ (Ready (problem n side kind (now m)) (state (now f) (now u) (now y))) × (active ≤ n) ⌝ }
-    ensures { λ _. ⌜ now (f .exit) ≡ branched (problem n side kind (now (m .entry))) active (state (now (f .entry)) (now (u .entry)) (now (y .entry))) ⌝ }
+    ensures { λ _. ⌜ now (f .exit) ≡ branched (problem n side kind (now (m .entry))) inner active (state (now (f .entry)) (now (u .entry)) (now (y .entry))) ⌝ }
 {
     let free = nfree(f, n, active);
     if free * n > 2 * active * (n - active) {
-        all_outer(f, u, y, m, n, side, kind, active);
+        all_outer(f, u, y, m, n, side, kind, inner, active);
         return;
     }
     all_inner(f, u, y, m, n, side, kind, active);
@@ -176,14 +200,15 @@ pub fn reconstruct_gradient(
     n: usize,
     side: usize,
     kind: Kind,
+    inner: bool,
     active: usize,
 )
     requires { ⌜ (Ready (problem n side kind (now m)) (state (now f) (now u) (now y))) × (active ≤ n) ⌝ }
-    ensures { λ _. ⌜ now (f .exit) ≡ reconstructed (problem n side kind (now (m .entry))) active (state (now (f .entry)) (now (u .entry)) (now (y .entry))) ⌝ }
+    ensures { λ _. ⌜ now (f .exit) ≡ reconstructed (problem n side kind (now (m .entry))) inner active (state (now (f .entry)) (now (u .entry)) (now (y .entry))) ⌝ }
 {
     if active == n {
         return;
     }
     freshen(f, n, active, n - active);
-    branch(f, u, y, m, n, side, kind, active);
+    branch(f, u, y, m, n, side, kind, inner, active);
 }

@@ -35,6 +35,7 @@ use Rattle.standing.proofs.Rest.{trained-rests}
 use Rattle.standing.proofs.Silent.{Silent, level-silent}
 use Rattle.standing.proofs.Starts.{silent-started}
 use Rattle.rho.specs.declared.Level.{Level}
+use Rattle.modes.specs.Modes.{repaired}
 use Rattle.solver.specs.End.{trained}
 use Rattle.solver.specs.Pass.{runs}
 use Rattle.solver.specs.Run.{Full, problemOf}
@@ -83,7 +84,7 @@ module _ (g : Given) (l r : List ℕ) (budget : ℕ) (d : Lent) (lc : g .n ≤ l
       closedWith (g .n) (w .state) (read (withObj (x .out) (objectiveOver (standsIn r) (g .n) (w .state .floats))) (x .crate) (x .home))
 
   -- the answer of the rule's run w, where it isn't refused, passes over what is silent
-  silent-answered : (w : Full) → stuck (w .run .status) ≡ false → levelAt g w ≡ levelOver (standsIn r) (g .n) (w .state .floats) (w .state .labels) (g .nu)
+  silent-answered : (w : Full) → stuck (w .run .status) ≡ false → levelAt g w ≡ levelOver (standsIn r) (g .n) (w .state .floats) (w .state .labels) (g .nu) (repaired (g .mode))
       → cleared (g .n) (w .state) ≡ cleared (g .n) (scratchOf d) → silent-whole w ≡ answeredOver (standsIn r) g budget w d
   unfolding silent-whole settledBy rhoOf answeredOver
   silent-answered w e v z =
@@ -204,9 +205,9 @@ module _ (tune : Tuning) (n : ℕ) (r : List ℕ) (x : Input) (nurule : Bool) (e
   goes : Goes st g (x .matrix) refl (x .ceilings) by-rule silent-run
   goes = trained-goes st g (x .matrix) refl (x .ceilings) budget s silent (rw (same-started (problemOf g (x .matrix)) (x .ceilings) s .long) (ready-s .floats))
 
-  level-is : levelAt g by-rule ≡ levelOver st n (by-rule .state .floats) (by-rule .state .labels) nurule
+  level-is : levelAt g by-rule ≡ levelOver st n (by-rule .state .floats) (by-rule .state .labels) nurule (repaired (g .mode))
   unfolding levelAt
-  level-is = rw (goes .kin .active, goes .kin .state) (level-silent st (problemOf g (x .matrix)) (silent-run .state) (goes .silent) nurule)
+  level-is = rw (goes .kin .active, goes .kin .state) (level-silent st (problemOf g (x .matrix)) (silent-run .state) (goes .silent) nurule (repaired (g .mode)))
 
   cleared-is : cleared n (silent-run .state) ≡ cleared n (scratchOf d)
   cleared-is =
@@ -252,7 +253,7 @@ module _ (tune : Tuning) (n : ℕ) (r : List ℕ) (x : Input) (nurule : Bool) (e
       (trained-order st g (x .matrix) (x .ceilings) budget s ∙ sym (trained-order st g (x .matrix) (x .ceilings) budget t))
       (λ k l. rw (trained-order st g (x .matrix) (x .ceilings) budget s, sample-loaded n (d .numbers) lu n k (omega arith) l) l)
       (same-weights st g (x .matrix) (x .matrix) (x .ceilings) (x .ceilings) (λ k l h. refl) s t ready-s ready-t silent-alike refl budget)
-      (same-level st g (x .matrix) (x .matrix) (x .ceilings) (x .ceilings) (λ k l h. refl) s t ready-s ready-t silent-alike refl budget nurule)
+      (same-level st g (x .matrix) (x .matrix) (x .ceilings) (x .ceilings) (λ k l h. refl) s t ready-s ready-t silent-alike refl budget nurule (repaired (g .mode)))
       (same-objective st g (x .matrix) (x .matrix) (x .ceilings) (x .ceilings) (λ k l h. refl) s t ready-s ready-t silent-alike refl budget)
 
   -- what the code leaves is what the entry says

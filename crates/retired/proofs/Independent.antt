@@ -33,6 +33,7 @@ use Rattle.standing.specs.End.{levelOver, objectiveOver}
 use Rattle.standing.specs.Run.{trainedOver}
 use Rattle.standing.proofs.Independent.{same-run, same-weights, same-level, same-objective, trained-order}
 use Rattle.rho.specs.declared.Level.{Level}
+use Rattle.modes.specs.Modes.{repaired}
 use Rattle.solver.specs.Run.{Full}
 use Rattle.solver.specs.declared.Given.{Given}
 use Rattle.solver.specs.declared.Run.{Run}
@@ -153,7 +154,7 @@ module _ (stands : ℕ → Bool) (g : Given) (budget : ℕ) (d : Lent) where
 
   pub answered-same : (w v : Full) → w .run ≡ v .run → w .state .numbers ≡ v .state .numbers → ((k : ℕ) → k < g .n → getD (w .state .numbers) k 0 < g .n)
       → ((k : ℕ) → k < g .n → weightIn (g .n) (w .state .floats) k ≡ weightIn (g .n) (v .state .floats) k)
-      → levelOver stands (g .n) (w .state .floats) (w .state .labels) (g .nu) ≡ levelOver stands (g .n) (v .state .floats) (v .state .labels) (g .nu)
+      → levelOver stands (g .n) (w .state .floats) (w .state .labels) (g .nu) (repaired (g .mode)) ≡ levelOver stands (g .n) (v .state .floats) (v .state .labels) (g .nu) (repaired (g .mode))
       → objectiveOver stands (g .n) (w .state .floats) ≡ objectiveOver stands (g .n) (v .state .floats)
       → answeredOver stands g budget w d ≡ answeredOver stands g budget v d
   unfolding answeredOver
@@ -194,7 +195,7 @@ module _ (tune : Tuning) (n : ℕ) (r : List ℕ) (x y : Input) (D : DifferRetir
       (trained-order (standsIn r) g (x .matrix) (x .ceilings) budget s ∙ sym (trained-order (standsIn r) g (y .matrix) (y .ceilings) budget t))
       (λ k l. rw (trained-order (standsIn r) g (x .matrix) (x .ceilings) budget s, sample-loaded n (d .numbers) lu n k (omega arith) l) l)
       (same-weights (standsIn r) g (x .matrix) (y .matrix) (x .ceilings) (y .ceilings) (D .ceilings) s t R R' A refl budget)
-      (same-level (standsIn r) g (x .matrix) (y .matrix) (x .ceilings) (y .ceilings) (D .ceilings) s t R R' A refl budget nurule)
+      (same-level (standsIn r) g (x .matrix) (y .matrix) (x .ceilings) (y .ceilings) (D .ceilings) s t R R' A refl budget nurule (repaired (g .mode)))
       (same-objective (standsIn r) g (x .matrix) (y .matrix) (x .ceilings) (y .ceilings) (D .ceilings) s t R R' A refl budget)
 
 -- the outcome o is that of the fit over what stands, of an input that was judged fine, over lists that suffice

@@ -18,6 +18,7 @@ use Rattle.kernel.specs.declared.Kind.the-variants.{TwoClass}
 use Rattle.readings.specs.Order.{crateReading, homeReading, weightIn}
 use Rattle.standing.specs.End.{levelOver, objectiveOver}
 use Rattle.standing.specs.Run.{trainedOver}
+use Rattle.modes.specs.Modes.{repaired}
 use Rattle.rho.specs.declared.Level.{Level}
 use Rattle.solver.specs.Run.{Full}
 use Rattle.solver.specs.declared.Given.{Given}
@@ -56,7 +57,7 @@ answeredOver stands g budget w d =
     let z = cleared (g .n) (scratchOf d) in
     let weights = weightIn (g .n) (w .state .floats) in
     let home = homeReading (g .n) (w .state .numbers) weights (d .home) in
-    let v = levelOver stands (g .n) (w .state .floats) (w .state .labels) (g .nu) in
+    let v = levelOver stands (g .n) (w .state .floats) (w .state .labels) (g .nu) (repaired (g .mode)) in
     whole (Accepted (answerOver stands g budget w v home)) (crateReading (g .n) (w .state .numbers) weights (d .crate)) home (z .floats) (z .numbers) (z .labels)
 
 -- labels l, ceilings c, start weights a, linear terms p: loaded, then trained over what stands

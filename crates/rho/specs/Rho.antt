@@ -40,9 +40,13 @@ shareWithC positive w yg s =
     (cond positive (lbRaised s yg) (ubLowered s yg))
     (cond (atLower w) (cond positive (ubLowered s yg) (lbRaised s yg)) (freed s yg))
 
+-- repaired it is lowered
+unfoldable pub ubMoved : Bool → Share → Float → Share
+ubMoved repaired s g = cond repaired (ubLowered s g) (ubRaised s g)
+
 -- nu rule: one position of the label
-unfoldable pub shareWithNu : Alpha → Float → Share → Share
-shareWithNu w g s = cond (atUpper w) (lbRaised s g) (cond (atLower w) (ubRaised s g) (freed s g))
+unfoldable pub shareWithNu : Bool → Alpha → Float → Share → Share
+shareWithNu repaired w g s = cond (atUpper w) (lbRaised s g) (cond (atLower w) (ubMoved repaired s g) (freed s g))
 
 abbrev pub positiveIn : List ℕ → ℕ → Bool
 positiveIn y k = eqb (getD y k 0) 1
@@ -52,12 +56,12 @@ shareC n f y zero = noShare
 shareC n f y (suc k) = shareWithC (positiveIn y k) (alphaIn n f k) (signed (positiveIn y k) (getD f k nan)) (shareC n f y k)
 
 -- of the positions of one label, 1 or 0
-unfoldable pub joinedNu : Bool → Alpha → Float → Share → Share
-joinedNu counts w g s = cond counts (shareWithNu w g s) s
+unfoldable pub joinedNu : Bool → Bool → Alpha → Float → Share → Share
+joinedNu repaired counts w g s = cond counts (shareWithNu repaired w g s) s
 
-unfoldable pub shareNu : ℕ → List Float → List ℕ → ℕ → ℕ → Share
-shareNu n f y label zero = noShare
-shareNu n f y label (suc k) = joinedNu (eqb (getD y k 0) label) (alphaIn n f k) (getD f k nan) (shareNu n f y label k)
+unfoldable pub shareNu : Bool → ℕ → List Float → List ℕ → ℕ → ℕ → Share
+shareNu repaired n f y label zero = noShare
+shareNu repaired n f y label (suc k) = joinedNu repaired (eqb (getD y k 0) label) (alphaIn n f k) (getD f k nan) (shareNu repaired n f y label k)
 
 -- the mean of the free ones, or the middle of the bounds
 unfoldable pub middle : Share → Float
@@ -69,9 +73,9 @@ rhoC n f y a = middle (shareC n f y a)
 abbrev pub levelOf : Float → Float → Level
 levelOf a b = record { rho = div binary64 (sub binary64 a b) two; r = div binary64 (add binary64 a b) two }
 
-abbrev pub rhoNu : ℕ → List Float → List ℕ → ℕ → Level
-rhoNu n f y a = levelOf (middle (shareNu n f y 1 a)) (middle (shareNu n f y 0 a))
+abbrev pub rhoNu : Bool → ℕ → List Float → List ℕ → ℕ → Level
+rhoNu repaired n f y a = levelOf (middle (shareNu repaired n f y 1 a)) (middle (shareNu repaired n f y 0 a))
 
 -- by the rule that holds; r is +0 without the nu rule
-unfoldable pub levelBy : Bool → ℕ → List Float → List ℕ → ℕ → Level
-levelBy nu n f y a = cond nu (rhoNu n f y a) (record { rho = rhoC n f y a; r = ofBits binary64 0 })
+unfoldable pub levelBy : Bool → Bool → ℕ → List Float → List ℕ → ℕ → Level
+levelBy nu repaired n f y a = cond nu (rhoNu repaired n f y a) (record { rho = rhoC n f y a; r = ofBits binary64 0 })

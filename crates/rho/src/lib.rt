@@ -3,7 +3,7 @@ ghost use mathlib.Core.Path.{_≡_};
 ghost use Prim.Native.Nat.{_+_, _*_, _≤_, _<_};
 ghost use lib.ListN.{length};
 ghost use Rattle.rho.specs.Rho as Rho;
-ghost use Rattle.rho.specs.Rho.{signed, shareWithC, shareWithNu, joinedNu, shareC, shareNu, middle, rhoC, rhoNu, levelBy};
+ghost use Rattle.rho.specs.Rho.{signed, shareWithC, ubMoved, shareWithNu, joinedNu, shareC, shareNu, middle, rhoC, rhoNu, levelBy};
 use alpha::Alpha;
 
 // What the positions so far say: how many are free and the sum of their gradients, and the two bounds.
@@ -92,15 +92,26 @@ pub fn weigh(s: Share, positive: bool, w: Alpha, g: f64) -> Share
     }
 }
 
+// Raised, though it starts at infinity; repaired, lowered.
+fn ub_moved(repaired: bool, s: Share, g: f64) -> Share
+    ensures { λ z. ⌜ z ≡ ubMoved repaired s g ⌝ }
+{
+    if repaired {
+        ub_lowered(s, g)
+    } else {
+        ub_raised(s, g)
+    }
+}
+
 // nu rule, one position of the label.
-fn weigh_nu(s: Share, w: Alpha, g: f64) -> Share
+fn weigh_nu(repaired: bool, s: Share, w: Alpha, g: f64) -> Share
     requires { ⌜ s .free < 512 ⌝ }
-    ensures { λ z. ⌜ (z ≡ shareWithNu w g s) × (z .free ≤ s .free + 1) ⌝ }
+    ensures { λ z. ⌜ (z ≡ shareWithNu repaired w g s) × (z .free ≤ s .free + 1) ⌝ }
 {
     if w.reached_upper() {
         lb_raised(s, g)
     } else if w.reached_lower() {
-        ub_raised(s, g)
+        ub_moved(repaired, s, g)
     } else {
         freed(s, g)
     }
@@ -124,16 +135,20 @@ fn share_c(f: &[f64], y: &[u8], n: usize, active: usize) -> Share
 }
 
 // A position counts only where it has the label.
-pub fn join(s: Share, counts: bool, w: Alpha, g: f64) -> Share
+pub fn join(repaired: bool, s: Share, counts: bool, w: Alpha, g: f64) -> Share
     requires { ⌜ s .free < 512 ⌝ }
-    ensures { λ z. ⌜ (z ≡ joinedNu counts w g s) × (z .free ≤ s .free + 1) ⌝ }
+    ensures { λ z. ⌜ (z ≡ joinedNu repaired counts w g s) × (z .free ≤ s .free + 1) ⌝ }
 {
-    if counts { weigh_nu(s, w, g) } else { s }
+    if counts {
+        weigh_nu(repaired, s, w, g)
+    } else {
+        s
+    }
 }
 
-fn share_nu(f: &[f64], y: &[u8], n: usize, active: usize, label: u8) -> Share
+fn share_nu(f: &[f64], y: &[u8], n: usize, active: usize, label: u8, repaired: bool) -> Share
     requires { ⌜ (active ≤ n) × (n ≤ 512) × (7 * n ≤ length (now f)) × (n ≤ length (now y)) ⌝ }
-    ensures { λ z. ⌜ (z ≡ shareNu n (now (f .entry)) (now (y .entry)) label active) × (z .free ≤ active) ⌝ }
+    ensures { λ z. ⌜ (z ≡ shareNu repaired n (now (f .entry)) (now (y .entry)) label active) × (z .free ≤ active) ⌝ }
 {
     let mut s = Share {
         free: 0,
@@ -142,7 +157,7 @@ fn share_nu(f: &[f64], y: &[u8], n: usize, active: usize, label: u8) -> Share
         lb: -1.0 / 0.0,
     };
     for k in 0..active {
-        s = join(s, y[k] == label, state::alpha_at(f, n, k), f[k]);
+        s = join(repaired, s, y[k] == label, state::alpha_at(f, n, k), f[k]);
     }
     s
 }
@@ -167,12 +182,12 @@ pub fn calculate_rho(f: &[f64], y: &[u8], n: usize, active: usize) -> f64
     settle(share_c(f, y, n, active))
 }
 
-pub fn calculate_rho_nu(f: &[f64], y: &[u8], n: usize, active: usize) -> Level
+pub fn calculate_rho_nu(f: &[f64], y: &[u8], n: usize, active: usize, repaired: bool) -> Level
     requires { ⌜ (active ≤ n) × (n ≤ 512) × (7 * n ≤ length (now f)) × (n ≤ length (now y)) ⌝ }
-    ensures { λ z. ⌜ z ≡ rhoNu n (now (f .entry)) (now (y .entry)) active ⌝ }
+    ensures { λ z. ⌜ z ≡ rhoNu repaired n (now (f .entry)) (now (y .entry)) active ⌝ }
 {
-    let a = settle(share_nu(f, y, n, active, 1));
-    let b = settle(share_nu(f, y, n, active, 0));
+    let a = settle(share_nu(f, y, n, active, 1, repaired));
+    let b = settle(share_nu(f, y, n, active, 0, repaired));
     Level {
         rho: (a - b) / 2.0,
         r: (a + b) / 2.0,
@@ -180,12 +195,12 @@ pub fn calculate_rho_nu(f: &[f64], y: &[u8], n: usize, active: usize) -> Level
 }
 
 // By the rule that holds; r is +0 without the nu rule.
-pub fn level_by(f: &[f64], y: &[u8], n: usize, active: usize, nu: bool) -> Level
+pub fn level_by(f: &[f64], y: &[u8], n: usize, active: usize, nu: bool, repaired: bool) -> Level
     requires { ⌜ (active ≤ n) × (n ≤ 512) × (7 * n ≤ length (now f)) × (n ≤ length (now y)) ⌝ }
-    ensures { λ l. ⌜ l ≡ levelBy nu n (now (f .entry)) (now (y .entry)) active ⌝ }
+    ensures { λ l. ⌜ l ≡ levelBy nu repaired n (now (f .entry)) (now (y .entry)) active ⌝ }
 {
     if nu {
-        calculate_rho_nu(f, y, n, active)
+        calculate_rho_nu(f, y, n, active, repaired)
     } else {
         Level {
             rho: calculate_rho(f, y, n, active),

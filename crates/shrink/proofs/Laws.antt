@@ -1,9 +1,10 @@
 -- The walk by its tests. Assumes nothing.
 use Prim.Native.Nat.{ℕ, zero, suc, _-_, _≤_, _<_}
-use mathlib.Core.Bool.{Bool, true, false}
+use mathlib.Core.Bool.{Bool, true, false, cond, _&&_}
 use mathlib.Core.Path.{_≡_, refl}
 use native.Mathlib.Omega.{arith}
 use borrow.Author.Tests.{lt-ltb, le-ltb}
+use lib.Dec.{leb}
 use Rattle.shrink.specs.Walk.{walking, countFallen, exchanged, dropped, visited}
 
 module _ {S : Type 0} (swap : S → ℕ → ℕ → S) (s : S) (i a : ℕ) where
@@ -31,22 +32,32 @@ module _ {S : Type 0} (drops : S → ℕ → Bool) (s : S) (i : ℕ) where
   fallen-end zero h = refl
   fallen-end (suc a) h = rw (le-ltb i (suc a) h)
 
-  module _ (swap : S → ℕ → ℕ → S) where
-    pub visited-refused : (a : ℕ) → walking a true s ≡ visited drops swap i (walking a true s)
+  module _ (swap : S → ℕ → ℕ → S) (ends : Bool) where
+    pub visited-refused : (a : ℕ) → walking a true s ≡ visited ends drops swap i (walking a true s)
     unfolding visited
     visited-refused a = refl
 
-    pub visited-kept : (a : ℕ) (r : Bool) → drops s i ≡ false → walking a r s ≡ visited drops swap i (walking a r s)
+    pub visited-past : (a : ℕ) (r : Bool) → (ends && leb a i) ≡ true → walking a r s ≡ visited ends drops swap i (walking a r s)
+    unfolding visited
+    visited-past a true h = refl
+    visited-past a false h = rw h
+
+    pub visited-kept : (a : ℕ) (r : Bool) → drops s i ≡ false → walking a r s ≡ visited ends drops swap i (walking a r s)
     unfolding visited
     visited-kept a true h = refl
-    visited-kept a false h = rw h
+    visited-kept a false h = go (ends && leb a i)
+      where
+        go : (x : Bool) → walking a false s ≡ cond x (walking a false s) (cond (drops s i) (dropped drops swap s i a) (walking a false s))
+        go true = refl
+        go false = rw h
 
-    pub visited-none : (a : ℕ) → a ≡ 0 → drops s i ≡ true → walking 0 true s ≡ visited drops swap i (walking a false s)
+    pub visited-none : (a : ℕ) → (ends && leb a i) ≡ false → a ≡ 0 → drops s i ≡ true → walking 0 true s ≡ visited ends drops swap i (walking a false s)
     unfolding visited dropped
-    visited-none zero e h = rw h
-    visited-none (suc a) e h = let z : ⊥ = omega arith in absurd z
+    visited-none zero p e h = rw (p, h)
+    visited-none (suc a) p e h = let z : ⊥ = omega arith in absurd z
 
-    pub visited-some : (a : ℕ) → (a ≡ 0 → ⊥) → drops s i ≡ true → exchanged swap s i (countFallen drops s i (a - 1)) ≡ visited drops swap i (walking a false s)
+    pub visited-some : (a : ℕ) → (ends && leb a i) ≡ false → (a ≡ 0 → ⊥) → drops s i ≡ true
+        → exchanged swap s i (countFallen drops s i (a - 1)) ≡ visited ends drops swap i (walking a false s)
     unfolding visited dropped
-    visited-some zero e h = absurd (e refl)
-    visited-some (suc a) e h = let p : suc a - 1 ≡ a = omega arith in rw (h, p)
+    visited-some zero p e h = absurd (e refl)
+    visited-some (suc a) p e h = let q : suc a - 1 ≡ a = omega arith in rw (p, h, q)

@@ -2,7 +2,7 @@
 use Prim.Native.Nat.{ℕ, zero, suc, _≤_, _<_}
 use mathlib.Core.Bool.{Bool, true, false, cond, _&&_}
 use native.Mathlib.Omega.{arith}
-use lib.Dec.{ltb}
+use lib.Dec.{ltb, leb}
 use Rattle.shrink.specs.Walk.{Walking, countFallen, exchanged, dropped, visited, walked}
 
 fallen-most : {S : Type 0} (drops : S → ℕ → Bool) (s : S) (i a : ℕ) → countFallen drops s i a ≤ a
@@ -20,7 +20,7 @@ pub record Walks {S : Type 0} (P : S → Type 0) (a : ℕ) (w : Walking S) : Typ
   pub most : w .active ≤ a
 
 module _ {S : Type 0} (n : ℕ) (P : S → Type 0) (swap : S → ℕ → ℕ → S) (keeps : (s : S) (i j : ℕ) → i < n → j < n → P s → P (swap s i j))
-    (drops : S → ℕ → Bool) (a : ℕ) (h : a ≤ n) where
+    (ends : Bool) (drops : S → ℕ → Bool) (a : ℕ) (h : a ≤ n) where
   walks-exchanged : (s : S) (i c : ℕ) → P s → i < n → c < n → c ≤ a → Walks P a (exchanged swap s i c)
   unfolding exchanged
   walks-exchanged s i c r l g k = record { kept = go (ltb i c); most = k }
@@ -36,16 +36,17 @@ module _ {S : Type 0} (n : ℕ) (P : S → Type 0) (swap : S → ℕ → ℕ →
       let m = fallen-most drops s i c in
       walks-exchanged s i (countFallen drops s i c) r l (omega arith) (omega arith)
 
-  walks-visited : (i : ℕ) (w : Walking S) → i < n → Walks P a w → Walks P a (visited drops swap i w)
+  walks-visited : (i : ℕ) (w : Walking S) → i < n → Walks P a w → Walks P a (visited ends drops swap i w)
   unfolding visited
-  walks-visited i w l r = go (w .refused) (drops (w .state) i)
+  walks-visited i w l r = go (w .refused) (ends && leb (w .active) i) (drops (w .state) i)
     where
-      go : (b c : Bool) → Walks P a (cond b w (cond c (dropped drops swap (w .state) i (w .active)) w))
-      go true c = r
-      go false true = walks-dropped (w .state) i (w .active) (r .kept) l (r .most)
-      go false false = r
+      go : (b e c : Bool) → Walks P a (cond b w (cond e w (cond c (dropped drops swap (w .state) i (w .active)) w)))
+      go true e c = r
+      go false true c = r
+      go false false true = walks-dropped (w .state) i (w .active) (r .kept) l (r .most)
+      go false false false = r
 
-  pub walks : (s : S) (m : ℕ) → m ≤ n → P s → Walks P a (walked drops swap a s m)
+  pub walks : (s : S) (m : ℕ) → m ≤ n → P s → Walks P a (walked ends drops swap a s m)
   unfolding walked
   walks s zero l r = record { kept = r; most = omega arith }
-  walks s (suc i) l r = walks-visited i (walked drops swap a s i) (omega arith) (walks s i (omega arith) r)
+  walks s (suc i) l r = walks-visited i (walked ends drops swap a s i) (omega arith) (walks s i (omega arith) r)

@@ -1,7 +1,7 @@
 -- The shrink walk, over any state, any test of what is to be dropped and any exchange (the rule, section 'Shrinking').
 use Prim.Native.Nat.{ℕ, zero, suc}
 use mathlib.Core.Bool.{Bool, true, false, cond, _&&_}
-use lib.Dec.{ltb}
+use lib.Dec.{ltb, leb}
 
 -- the active count, whether it was to fall below 0, and the state
 pub record Walking (S : Type 0) : Type 0 where
@@ -26,10 +26,12 @@ unfoldable pub dropped : {S : Type 0} → (S → ℕ → Bool) → (S → ℕ �
 dropped drops swap s i zero = walking zero true s
 dropped drops swap s i (suc a) = exchanged swap s i (countFallen drops s i a)
 
-unfoldable pub visited : {S : Type 0} → (S → ℕ → Bool) → (S → ℕ → ℕ → S) → ℕ → Walking S → Walking S
-visited drops swap i w = cond (w .refused) w (cond (drops (w .state) i) (dropped drops swap (w .state) i (w .active)) w)
+-- position i: passed over once the walk is refused, and in a walk that ends at the current count where that isn't above i
+unfoldable pub visited : {S : Type 0} → Bool → (S → ℕ → Bool) → (S → ℕ → ℕ → S) → ℕ → Walking S → Walking S
+visited ends drops swap i w =
+    cond (w .refused) w (cond (ends && leb (w .active) i) w (cond (drops (w .state) i) (dropped drops swap (w .state) i (w .active)) w))
 
 -- over the first m positions, from the count a: m doesn't fall with the count
-unfoldable pub walked : {S : Type 0} → (S → ℕ → Bool) → (S → ℕ → ℕ → S) → ℕ → S → ℕ → Walking S
-walked drops swap a s zero = walking a false s
-walked drops swap a s (suc i) = visited drops swap i (walked drops swap a s i)
+unfoldable pub walked : {S : Type 0} → Bool → (S → ℕ → Bool) → (S → ℕ → ℕ → S) → ℕ → S → ℕ → Walking S
+walked ends drops swap a s zero = walking a false s
+walked ends drops swap a s (suc i) = visited ends drops swap i (walked ends drops swap a s i)

@@ -9,37 +9,50 @@ ghost use Rattle.shrink.specs.Drops.{limitsC, limitsNu, upperDrops, lowe
 use alpha::Alpha;
 
 // What a gradient must exceed: at upper and at lower, positive and negative. At lower a negative one is asked for −G
-// where it is mirrored.
+// where it is mirrored. And whether the walk ends at the current count.
 pub struct Limits {
     pub upos: f64,
     pub uneg: f64,
     pub lpos: f64,
     pub lneg: f64,
     pub mirrored: bool,
+    pub ends: bool,
 }
 
 impl Limits {
-    pub fn c(gmax1: f64, gmax2: f64) -> Self
-        ensures { λ r. ⌜ r ≡ limitsC gmax1 gmax2 ⌝ }
+    pub fn c(repaired: bool, gmax1: f64, gmax2: f64) -> Self
+        ensures { λ r. ⌜ r ≡ limitsC repaired gmax1 gmax2 ⌝ }
     {
         Self {
             upos: gmax1,
             uneg: gmax2,
             lpos: gmax2,
             lneg: gmax1,
-            mirrored: true,
+            mirrored: !repaired,
+            ends: repaired,
         }
     }
 
-    pub fn nu(gmax1: f64, gmax2: f64, gmax3: f64, gmax4: f64) -> Self
-        ensures { λ r. ⌜ r ≡ limitsNu gmax1 gmax2 gmax3 gmax4 ⌝ }
+    pub fn nu(repaired: bool, gmax1: f64, gmax2: f64, gmax3: f64, gmax4: f64) -> Self
+        ensures { λ r. ⌜ r ≡ limitsNu repaired gmax1 gmax2 gmax3 gmax4 ⌝ }
     {
+        if repaired {
+            return Self {
+                upos: gmax1,
+                uneg: gmax4,
+                lpos: gmax3,
+                lneg: gmax2,
+                mirrored: false,
+                ends: repaired,
+            };
+        }
         Self {
             upos: gmax1,
             uneg: gmax4,
             lpos: gmax2,
             lneg: gmax3,
             mirrored: false,
+            ends: repaired,
         }
     }
 }
@@ -121,9 +134,12 @@ fn exchange(f: &mut [f64], u: &mut [u64], y: &mut [u8], n: usize, i: usize, a: u
 fn visit(f: &mut [f64], u: &mut [u64], y: &mut [u8], n: usize, l: Limits, i: usize, w: Walk) -> Walk
     requires { ⌜ (i < n) × (w .active ≤ n) × (n ≤ 512) × (7 * n ≤ length (now f)) × (2 * n ≤ length (now u)) × (n ≤ length (now y)) ⌝ }
     ensures { λ r. ⌜ (_≡_ {A = Walking State} (walking (r .active) (r .refused) (state (now (f .exit)) (now (u .exit)) (now (y .exit))))
-        (visited (dropsAt n l) (moved n) i (walking (w .active) (w .refused) (state (now (f .entry)) (now (u .entry)) (now (y .entry)))))) × (r .active ≤ w .active) ⌝ }
+        (visited (l .ends) (dropsAt n l) (moved n) i (walking (w .active) (w .refused) (state (now (f .entry)) (now (u .entry)) (now (y .entry)))))) × (r .active ≤ w .active) ⌝ }
 {
     if w.refused {
+        return w;
+    }
+    if l.ends & (w.active <= i) {
         return w;
     }
     if !drops(f, u, y, n, l, i) {
@@ -140,7 +156,7 @@ fn visit(f: &mut [f64], u: &mut [u64], y: &mut [u8], n: usize, l: Limits, i: usi
     exchange(f, u, y, n, i, a)
 }
 
-// The walk: the range of i is fixed when it starts.
+// The walk: the range of i is fixed when it starts, and past the current count a walk that ends there changes nothing.
 pub fn walk_over(
     f: &mut [f64],
     u: &mut [u64],

@@ -12,13 +12,14 @@ use Rattle.choose_c.proofs.Rule as C
 use Rattle.choose_nu.specs.Choice.{extremesNu, choiceNu}
 use Rattle.choose_nu.proofs.Rule as Nu
 use Rattle.extreme.specs.declared.Choice.the-variants.{Pair, Optimal}
+use Rattle.modes.specs.Modes.{repaired}
 use Rattle.shrink.specs.Drops.{walkedOver}
 use Rattle.shrink.specs.Walk.{Walking}
 use Rattle.start.specs.Start.{started}
 use Rattle.state.specs.Lists.{State}
-use Rattle.solver.specs.Run.{readyOf, problemOf, Full, full, withRun, goes, counterAt, reopened, ended, afterWalk, period}
-use Rattle.solver.specs.End.{activeAt, closed, trained}
-use Rattle.solver.specs.Pass.{ten, chosen, rebuilt, topsC, topsNu, topsOf, restored, walkedFrom, shrunk, countedDown, stepped, looked, lookedAgain, workedBy, worked, onward, passed, next, runs}
+use Rattle.solver.specs.Run.{readyOf, problemOf, Full, full, withRun, goes, counterAt, activeAt, reopened, ended, afterWalk, period}
+use Rattle.solver.specs.End.{closed, trained}
+use Rattle.solver.specs.Pass.{ten, chosen, rebuilt, refreshed, topsC, topsNu, topsOf, restored, walkedFrom, shrunk, countedDown, stepped, looked, lookedAgain, workedBy, worked, onward, passed, next, runs}
 use Rattle.solver.specs.declared.Given.{Given}
 use Rattle.solver.specs.declared.Run.{Run}
 use Rattle.solver.specs.declared.Tops.{Tops}
@@ -36,11 +37,11 @@ unfolding shrunk walkedFrom
 shrunk-iterations g m w = restored-iterations g m (topsOf g m w .level) w
 
 module _ (g : Given) (m : List ℕ) (w : Full) where
-  pub tops-nu : g .nu ≡ true → topsNu (extremesNu (problemOf g m) (w .state) (w .run .active)) ≡ topsOf g m w
+  pub tops-nu : g .nu ≡ true → topsNu (repaired (g .mode)) (extremesNu (problemOf g m) (w .state) (w .run .active)) ≡ topsOf g m w
   unfolding topsOf
   tops-nu h = rw h
 
-  pub tops-c : g .nu ≡ false → topsC (extremesC (problemOf g m) (w .state) (w .run .active)) ≡ topsOf g m w
+  pub tops-c : g .nu ≡ false → topsC (repaired (g .mode)) (extremesC (problemOf g m) (w .state) (w .run .active)) ≡ topsOf g m w
   unfolding topsOf
   tops-c h = rw h
 
@@ -63,6 +64,10 @@ module _ (g : Given) (m : List ℕ) (w : Full) where
       → _≡_ {A = Full} (record { run = q; state = k .state }) (shrunk g m w)
   unfolding shrunk walkedFrom
   shrunk-by t v k q a b c d = rw (d, c, b, a)
+
+  pub refreshed-by : (v : Full) → v ≡ rebuilt g m w → withRun v (cond (repaired (g .mode)) (activeAt (w .run) (g .n)) (w .run)) ≡ refreshed g m w
+  unfolding refreshed
+  refreshed-by v e = rw e
 
   -- ---- the counter
 
@@ -116,7 +121,7 @@ module _ (g : Given) (m : List ℕ) (w : Full) where
     unfolding workedBy
     worked-pair i j e = rw e
 
-    pub worked-none : chosen g m w ≡ Optimal → lookedAgain g m b (rebuilt g m w) ≡ worked g m b w
+    pub worked-none : chosen g m w ≡ Optimal → lookedAgain g m b (refreshed g m w) ≡ worked g m b w
     unfolding workedBy
     worked-none e = rw e
 

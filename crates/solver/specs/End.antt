@@ -9,12 +9,8 @@ use Rattle.alpha.specs.Weight.{two}
 use Rattle.start.specs.Start.{started}
 use Rattle.state.specs.Lists.{State}
 use Rattle.solver.specs.Pass.{rebuilt, runs}
-use Rattle.solver.specs.Run.{readyOf, problemOf, Full, full, withRun}
+use Rattle.solver.specs.Run.{readyOf, problemOf, Full, full, withRun, activeAt}
 use Rattle.solver.specs.declared.Given.{Given}
-use Rattle.solver.specs.declared.Run.{Run}
-
-abbrev pub activeAt : Run → ℕ → Run
-activeAt r a = record { active = a; counter = r .counter; iterations = r .iterations; unshrink = r .unshrink; status = r .status }
 
 -- the budget ran out with inactive positions left: all gradients anew, and all positions active
 unfoldable pub closed : Given → List ℕ → ℕ → Full → Full

@@ -11,13 +11,14 @@ use Rattle.extreme.specs.declared.Choice.{Choice}
 use Rattle.extreme.specs.declared.Choice.the-variants.{Pair, Optimal}
 use Rattle.extreme.specs.declared.Extreme.{Extreme}
 use Rattle.floats.specs.Helpers.{maxOf}
+use Rattle.modes.specs.Modes.{repaired}
 use Rattle.reconstruct.specs.Reconstruct.{reconstructed}
 use Rattle.shrink.specs.Drops.{limitsC, limitsNu, walkedOver}
 use Rattle.shrink.specs.Walk.{Walking}
 use Rattle.shrink.specs.declared.Limits.{Limits}
 use Rattle.state.specs.Lists.{State}
 use Rattle.update.specs.Update.{updated}
-use Rattle.solver.specs.Run.{problemOf, Full, withFloats, withRun, goes, counterAt, reopened, advanced, ended, afterWalk, period}
+use Rattle.solver.specs.Run.{problemOf, Full, withFloats, withRun, goes, counterAt, activeAt, reopened, advanced, ended, afterWalk, period}
 use Rattle.solver.specs.declared.Given.{Given}
 use Rattle.solver.specs.declared.Run.{Run}
 use Rattle.solver.specs.declared.Tops.{Tops}
@@ -26,18 +27,21 @@ abbrev pub ten : Float
 ten = ofBits binary64 0x4024_0000_0000_0000
 
 -- what shrinking asks of the extremes
-abbrev pub topsC : Extremes → Tops
-topsC e =
-    record { limits = limitsC (e .gmax1 .value) (e .gmax2 .value); level = add binary64 (e .gmax1 .value) (e .gmax2 .value) }
+abbrev pub topsC : Bool → Extremes → Tops
+topsC x e =
+    record { limits = limitsC x (e .gmax1 .value) (e .gmax2 .value); level = add binary64 (e .gmax1 .value) (e .gmax2 .value) }
 
--- the level crosses the labels
-abbrev pub topsNu : List Extreme → Tops
-topsNu es =
+-- the level crosses the labels; repaired it adds a label's own two
+unfoldable pub levelNu : Bool → Float → Float → Float → Float → Float
+levelNu x a b c d = cond x (maxOf (add binary64 a c) (add binary64 b d)) (maxOf (add binary64 a b) (add binary64 c d))
+
+abbrev pub topsNu : Bool → List Extreme → Tops
+topsNu x es =
     let a = placed es 0 .value in
     let b = placed es 1 .value in
     let c = placed es 2 .value in
     let d = placed es 3 .value in
-    record { limits = limitsNu a b c d; level = maxOf (add binary64 a b) (add binary64 c d) }
+    record { limits = limitsNu x a b c d; level = levelNu x a b c d }
 
 abbrev pub walkedFull : Run → Walking State → Full
 walkedFull r k = record { run = afterWalk r (k .active) (k .refused); state = k .state }
@@ -52,15 +56,19 @@ module _ (g : Given) (m : List ℕ) where
       (choiceC (problemOf g m) (w .state) (g .floor) (g .eps) (w .run .active))
 
   unfoldable pub rebuilt : Full → Full
-  rebuilt w = withFloats w (reconstructed (problemOf g m) (w .run .active) (w .state))
+  rebuilt w = withFloats w (reconstructed (problemOf g m) (repaired (g .mode)) (w .run .active) (w .state))
+
+  -- before the second look: all gradients anew; repaired, all positions are active again
+  unfoldable pub refreshed : Full → Full
+  refreshed w = withRun (rebuilt w) (cond (repaired (g .mode)) (activeAt (w .run) (g .n)) (w .run))
 
   -- ---- shrinking
 
   unfoldable pub topsOf : Full → Tops
   topsOf w =
       cond (g .nu)
-      (topsNu (extremesNu (problemOf g m) (w .state) (w .run .active)))
-      (topsC (extremesC (problemOf g m) (w .state) (w .run .active)))
+      (topsNu (repaired (g .mode)) (extremesNu (problemOf g m) (w .state) (w .run .active)))
+      (topsC (repaired (g .mode)) (extremesC (problemOf g m) (w .state) (w .run .active)))
 
   -- once in a run, where the level is at most eps·10: all gradients anew, and all positions active
   unfoldable pub restored : Float → Full → Full
@@ -88,7 +96,7 @@ module _ (g : Given) (m : List ℕ) where
 
     unfoldable pub stepped : Full → ℕ → ℕ → Full
     stepped w i j =
-        withRun (withFloats w (updated (problemOf g m) b (g .floor) (w .state) i j (w .run .active))) (advanced (w .run))
+        withRun (withFloats w (updated (problemOf g m) b (g .mode) (g .floor) (w .state) i j (w .run .active))) (advanced (w .run))
 
     -- the second look: a pair found now makes the next pass shrink
     unfoldable pub looked : Full → Choice → Full
@@ -100,7 +108,7 @@ module _ (g : Given) (m : List ℕ) where
 
     unfoldable pub workedBy : Full → Choice → Full
     workedBy w (Pair i j) = stepped w i j
-    workedBy w Optimal = lookedAgain (rebuilt w)
+    workedBy w Optimal = lookedAgain (refreshed w)
 
     abbrev pub worked : Full → Full
     worked w = workedBy w (chosen w)

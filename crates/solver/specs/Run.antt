@@ -35,6 +35,9 @@ goes Refused = false
 abbrev pub counterAt : Run → ℕ → Run
 counterAt r c = record { active = r .active; counter = c; iterations = r .iterations; unshrink = r .unshrink; status = r .status }
 
+abbrev pub activeAt : Run → ℕ → Run
+activeAt r a = record { active = a; counter = r .counter; iterations = r .iterations; unshrink = r .unshrink; status = r .status }
+
 abbrev pub reopened : Run → ℕ → Run
 reopened r n = record { active = n; counter = r .counter; iterations = r .iterations; unshrink = true; status = r .status }
 

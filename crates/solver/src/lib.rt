@@ -1,15 +1,18 @@
 // The run: passes of pair choice and update, with shrinking, until there is no pair or the budget is spent.
+ghost use mathlib.Core.Bool.{cond};
 ghost use mathlib.Core.Path.{_≡_};
+ghost use Rattle.modes.specs.Modes.{repaired};
 ghost use Prim.Native.Nat.{_+_, _-_, _*_, _≤_, _<_};
 ghost use lib.ListN.{length};
 ghost use Rattle.state.specs.Lists.{problem, state, Ready};
-ghost use Rattle.solver.specs.End.{activeAt, closed, sumTo, objectiveOf, trained};
-ghost use Rattle.solver.specs.Run.{readyOf, problemOf, Full, full, goes, counterAt, reopened, advanced, ended, afterWalk, period, Sound};
-ghost use Rattle.solver.specs.Pass.{chosen, rebuilt, topsC, topsNu, topsOf, restored, shrunk, countedDown, stepped, lookedAgain, worked, passed, runs};
+ghost use Rattle.solver.specs.End.{closed, sumTo, objectiveOf, trained};
+ghost use Rattle.solver.specs.Run.{readyOf, problemOf, Full, full, goes, counterAt, activeAt, reopened, advanced, ended, afterWalk, period, Sound};
+ghost use Rattle.solver.specs.Pass.{chosen, rebuilt, refreshed, levelNu, topsC, topsNu, topsOf, restored, shrunk, countedDown, stepped, lookedAgain, worked, passed, runs};
 use choose_c::Extremes;
 use extreme::Choice;
 use extreme::Extreme;
 use kernel::Kind;
+use modes::Mode;
 use shrink::Limits;
 use shrink::Walk;
 
@@ -18,6 +21,7 @@ pub struct Given {
     pub n: usize,
     pub side: usize,
     pub kind: Kind,
+    pub mode: Mode,
     pub floor: f64,
     pub eps: f64,
     pub shrinking: bool,
@@ -62,6 +66,19 @@ fn with_counter(r: Run, c: usize) -> Run
     Run {
         active: r.active,
         counter: c,
+        iterations: r.iterations,
+        unshrink: r.unshrink,
+        status: s,
+    }
+}
+
+fn with_active(r: Run, a: usize) -> Run
+    ensures { λ q. ⌜ q ≡ activeAt r a ⌝ }
+{
+    let s = r.status;
+    Run {
+        active: a,
+        counter: r.counter,
         iterations: r.iterations,
         unshrink: r.unshrink,
         status: s,
@@ -136,6 +153,13 @@ fn period_of(n: usize) -> usize
     if n < 1000 { n } else { 1000 }
 }
 
+pub fn is_repaired(g: Given) -> bool
+    ensures { λ b. ⌜ b ≡ repaired (g .mode) ⌝ }
+{
+    let mode = g.mode;
+    modes::repaired(mode)
+}
+
 // The pair, by the rule that holds.
 fn select(f: &[f64], u: &[u64], y: &[u8], m: &[u8], g: Given, r: Run) -> Choice
     requires { ⌜ (Ready (problemOf g (now m)) (state (now f) (now u) (now y))) × (r .active ≤ g .n) ⌝ }
@@ -152,19 +176,29 @@ fn select(f: &[f64], u: &[u64], y: &[u8], m: &[u8], g: Given, r: Run) -> Choice
     }
 }
 
-fn tops_c(e: Extremes) -> Tops
-    ensures { λ t. ⌜ t ≡ topsC e ⌝ }
+fn tops_c(x: bool, e: Extremes) -> Tops
+    ensures { λ t. ⌜ t ≡ topsC x e ⌝ }
 {
     let a = e.gmax1.value;
     let b = e.gmax2.value;
     Tops {
-        limits: Limits::c(a, b),
+        limits: Limits::c(x, a, b),
         level: a + b,
     }
 }
 
-fn tops_nu(es: [Extreme; 4]) -> Tops
-    ensures { λ t. ⌜ t ≡ topsNu es ⌝ }
+fn level_nu(x: bool, a: f64, b: f64, c: f64, d: f64) -> f64
+    ensures { λ r. ⌜ r ≡ levelNu x a b c d ⌝ }
+{
+    if x {
+        floats::max(a + c, b + d)
+    } else {
+        floats::max(a + b, c + d)
+    }
+}
+
+fn tops_nu(x: bool, es: [Extreme; 4]) -> Tops
+    ensures { λ t. ⌜ t ≡ topsNu x es ⌝ }
 {
     let p1 = es[0];
     let n1 = es[1];
@@ -175,8 +209,8 @@ fn tops_nu(es: [Extreme; 4]) -> Tops
     let c = p2.value;
     let d = n2.value;
     Tops {
-        limits: Limits::nu(a, b, c, d),
-        level: floats::max(a + b, c + d),
+        limits: Limits::nu(x, a, b, c, d),
+        level: level_nu(x, a, b, c, d),
     }
 }
 
@@ -188,10 +222,17 @@ fn tops_of(f: &[f64], u: &[u64], y: &[u8], m: &[u8], g: Given, r: Run) -> Tops
     let side = g.side;
     let kind = g.kind;
     let active = r.active;
+    let x = is_repaired(g);
     if g.nu {
-        tops_nu(choose_nu::max_violating_pair_nu(f, u, y, n, side, kind, m, active))
+        tops_nu(
+            x,
+            choose_nu::max_violating_pair_nu(f, u, y, n, side, kind, m, active),
+        )
     } else {
-        tops_c(choose_c::max_violating_pair(f, u, y, n, side, kind, m, active))
+        tops_c(
+            x,
+            choose_c::max_violating_pair(f, u, y, n, side, kind, m, active),
+        )
     }
 }
 
@@ -205,7 +246,28 @@ fn rebuild(f: &mut [f64], u: &[u64], y: &[u8], m: &[u8], g: Given, r: Run)
     let side = g.side;
     let kind = g.kind;
     let active = r.active;
-    reconstruct::reconstruct_gradient(f, u, y, m, n, side, kind, active);
+    let x = is_repaired(g);
+    reconstruct::reconstruct_gradient(f, u, y, m, n, side, kind, x, active);
+}
+
+fn refreshed_run(g: Given, r: Run) -> Run
+    requires { ⌜ Sound (g .n) r ⌝ }
+    ensures { λ q. ⌜ (q ≡ cond (repaired (g .mode)) (activeAt r (g .n)) r) × (Sound (g .n) q) × (q .iterations ≡ r .iterations) ⌝ }
+{
+    if is_repaired(g) {
+        return with_active(r, g.n);
+    }
+    r
+}
+
+// Before the second look; repaired, all positions are active again.
+fn refresh(f: &mut [f64], u: &[u64], y: &[u8], m: &[u8], g: Given, r: Run) -> Run
+    requires { ⌜ (Ready (problemOf g (now m)) (state (now f) (now u) (now y))) × (Sound (g .n) r) ⌝ }
+    ensures { λ q. ⌜ (_≡_ {A = Full} (full q (now (f .exit)) (now (u .entry)) (now (y .entry)))
+        (refreshed g (now (m .entry)) (full r (now (f .entry)) (now (u .entry)) (now (y .entry))))) × (Sound (g .n) q) × (q .iterations ≡ r .iterations) ⌝ }
+{
+    rebuild(f, u, y, m, g, r);
+    refreshed_run(g, r)
 }
 
 // Where the level is low for the first time, all positions are active again.
@@ -279,11 +341,12 @@ fn step(
     let side = g.side;
     let kind = g.kind;
     let active = r.active;
-    update::update(f, u, y, m, b, n, side, kind, active, i, j, g.floor);
+    let mode = g.mode;
+    update::update(f, u, y, m, b, n, side, kind, active, i, j, mode, g.floor);
     advance(r)
 }
 
-// The second look, over the same active positions, after a reconstruction.
+// The second look, after a reconstruction.
 fn look(f: &mut [f64], u: &[u64], y: &[u8], m: &[u8], b: &[f64], g: Given, r: Run) -> Run
     requires { ⌜ (Ready (problemOf g (now m)) (state (now f) (now u) (now y))) × (g .n ≤ length (now b)) × (Sound (g .n) r)
         × (r .iterations < 10000000) ⌝ }
@@ -310,8 +373,8 @@ fn work(f: &mut [f64], u: &[u64], y: &[u8], m: &[u8], b: &[f64], g: Given, r: Ru
     match c {
         Choice::Pair(i, j) => step(f, u, y, m, b, g, r, i, j),
         Choice::Optimal => {
-            rebuild(f, u, y, m, g, r);
-            look(f, u, y, m, b, g, r)
+            let q = refresh(f, u, y, m, g, r);
+            look(f, u, y, m, b, g, q)
         }
     }
 }
@@ -358,19 +421,6 @@ pub fn solve(
         t += 1;
     }
     r
-}
-
-fn with_active(r: Run, a: usize) -> Run
-    ensures { λ q. ⌜ q ≡ activeAt r a ⌝ }
-{
-    let s = r.status;
-    Run {
-        active: a,
-        counter: r.counter,
-        iterations: r.iterations,
-        unshrink: r.unshrink,
-        status: s,
-    }
 }
 
 // Where the budget ran out with inactive positions left, all are active again.

@@ -42,21 +42,21 @@ module _ (stands : ℕ → Bool) (n side : ℕ) (kind : Kind) (m m' : List ℕ) 
       go true h z = weighed-by _ _ _ _ _ _ _ _ (A .labels a (omega arith) h) (alpha-is a (omega arith) h) (A .gradients a (omega arith) h) z
       go false h z = z
 
-  share-nu-alike : (label a : ℕ) → a ≤ n → shareNuOver stands n (s .floats) (s .labels) label a ≡ shareNuOver stands n (t .floats) (t .labels) label a
+  share-nu-alike : (r : Bool) (label a : ℕ) → a ≤ n → shareNuOver stands n (s .floats) (s .labels) r label a ≡ shareNuOver stands n (t .floats) (t .labels) r label a
   unfolding shareNuOver joinedNu
-  share-nu-alike label zero l = refl
-  share-nu-alike label (suc a) l = go (stands a) refl (share-nu-alike label a (omega arith))
+  share-nu-alike r label zero l = refl
+  share-nu-alike r label (suc a) l = go (stands a) refl (share-nu-alike r label a (omega arith))
     where
-      go : (x : Bool) → stands a ≡ x → shareNuOver stands n (s .floats) (s .labels) label a ≡ shareNuOver stands n (t .floats) (t .labels) label a
-          → joinedNu (x && eqb (getD (s .labels) a 0) label) (alphaIn n (s .floats) a) (getD (s .floats) a nan) (shareNuOver stands n (s .floats) (s .labels) label a)
-          ≡ joinedNu (x && eqb (getD (t .labels) a 0) label) (alphaIn n (t .floats) a) (getD (t .floats) a nan) (shareNuOver stands n (t .floats) (t .labels) label a)
+      go : (x : Bool) → stands a ≡ x → shareNuOver stands n (s .floats) (s .labels) r label a ≡ shareNuOver stands n (t .floats) (t .labels) r label a
+          → joinedNu r (x && eqb (getD (s .labels) a 0) label) (alphaIn n (s .floats) a) (getD (s .floats) a nan) (shareNuOver stands n (s .floats) (s .labels) r label a)
+          ≡ joinedNu r (x && eqb (getD (t .labels) a 0) label) (alphaIn n (t .floats) a) (getD (t .floats) a nan) (shareNuOver stands n (t .floats) (t .labels) r label a)
       go true h z = rw (A .labels a (omega arith) h, alpha-is a (omega arith) h, A .gradients a (omega arith) h, z)
       go false h z = z
 
-  pub level-alike : (nu : Bool) → levelOver stands n (s .floats) (s .labels) nu ≡ levelOver stands n (t .floats) (t .labels) nu
+  pub level-alike : (nu x : Bool) → levelOver stands n (s .floats) (s .labels) nu x ≡ levelOver stands n (t .floats) (t .labels) nu x
   unfolding levelOver
-  level-alike true = ap₂ (λ (x y : Share). levelOf (middle x) (middle y)) (share-nu-alike 1 n (omega arith)) (share-nu-alike 0 n (omega arith))
-  level-alike false = ap (λ (x : Share). record { rho = middle x; r = ofBits binary64 0 }) (share-c-alike n (omega arith))
+  level-alike true r = ap₂ (λ (x y : Share). levelOf (middle x) (middle y)) (share-nu-alike r 1 n (omega arith)) (share-nu-alike r 0 n (omega arith))
+  level-alike false r = ap (λ (x : Share). record { rho = middle x; r = ofBits binary64 0 }) (share-c-alike n (omega arith))
 
   sum-alike : (a : ℕ) → a ≤ n → sumOver stands n (s .floats) a ≡ sumOver stands n (t .floats) a
   unfolding sumOver

@@ -45,7 +45,7 @@ module _ (stands : ℕ → Bool) (g : Given) (m m' : List ℕ) (b c : List Float
   pub same-weights : (k : ℕ) → k < g .n → alpha (problemOf g m) (w .state) k .value ≡ alpha (problemOf g m') (v .state) k .value
   same-weights = trained-twins .alike .weights
 
-  pub same-level : (nu : Bool) → levelOver stands (g .n) (w .state .floats) (w .state .labels) nu ≡ levelOver stands (g .n) (v .state .floats) (v .state .labels) nu
+  pub same-level : (nu x : Bool) → levelOver stands (g .n) (w .state .floats) (w .state .labels) nu x ≡ levelOver stands (g .n) (v .state .floats) (v .state .labels) nu x
   same-level = level-alike stands (g .n) (g .side) (g .kind) m m' (w .state) (v .state) (trained-twins .alike)
 
   pub same-objective : objectiveOver stands (g .n) (w .state .floats) ≡ objectiveOver stands (g .n) (v .state .floats)

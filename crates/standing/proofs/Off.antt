@@ -9,6 +9,7 @@ use lib.ListN.{length}
 use Rattle.alpha.specs.Weight.{atLower}
 use Rattle.extreme.specs.declared.Choice.{Choice}
 use Rattle.extreme.specs.declared.Choice.the-variants.{Pair, Optimal}
+use Rattle.modes.specs.declared.Mode.{Mode}
 use Rattle.rounding.proofs.Nan.{nan-add}
 use Rattle.solver.specs.End.{trained}
 use Rattle.solver.specs.Pass.{chosen, countedDown, stepped, looked, workedBy, onward, passed, next, runs}
@@ -16,7 +17,7 @@ use Rattle.solver.specs.Run.{problemOf, Full, full, withRun, goes, ended, ready
 use Rattle.solver.specs.declared.Given.{Given}
 use Rattle.start.specs.Start.{started}
 use Rattle.state.specs.Lists.{Problem, State, over}
-use Rattle.trace.proofs.Off.{rebuilt-off, closed-off, counted-off}
+use Rattle.trace.proofs.Off.{refreshed-off, closed-off, counted-off}
 use Rattle.update.specs.Update.{updatedState}
 use Rattle.update.proofs.Left.{length-updated, alpha-other, gradient-active}
 use Rattle.standing.proofs.Alike.{Alike}
@@ -36,12 +37,12 @@ alike-self stands p s = record {
 }
 
 -- what is retired stays silent
-pub silent-updated : (stands : ℕ → Bool) (p : Problem) (b : List Float) (floor : Float) (s : State) (i j : ℕ) → i < p .n → j < p .n → stands i ≡ true → stands j ≡ true
-    → 7 * p .n ≤ length (s .floats) → Silent stands p s → Silent stands p (updatedState p b floor s i j (p .n))
-silent-updated stands p b floor s i j I J hi hj long S = record {
-  gradients = λ k l h. gradient-active p b floor s i j (p .n) I J (omega arith) long k l ∙ rw (S .gradients k l h) (nan-add _);
+pub silent-updated : (stands : ℕ → Bool) (p : Problem) (b : List Float) (mode : Mode) (floor : Float) (s : State) (i j : ℕ) → i < p .n → j < p .n → stands i ≡ true → stands j ≡ true
+    → 7 * p .n ≤ length (s .floats) → Silent stands p s → Silent stands p (updatedState p b mode floor s i j (p .n))
+silent-updated stands p b mode floor s i j I J hi hj long S = record {
+  gradients = λ k l h. gradient-active p b mode floor s i j (p .n) I J (omega arith) long k l ∙ rw (S .gradients k l h) (nan-add _);
   weights = λ k l h.
-      ap atLower (alpha-other p b floor s i j (p .n) I J (omega arith) long k l
+      ap atLower (alpha-other p b mode floor s i j (p .n) I J (omega arith) long k l
       (λ e. true≢false (sym hi ∙ ap stands (sym e) ∙ h)) (λ e. true≢false (sym hj ∙ ap stands (sym e) ∙ h)))
       ∙ S .weights k l h;
 }
@@ -89,8 +90,8 @@ module _ (stands : ℕ → Bool) (g : Given) (m : List ℕ) (off : g .shrinking 
             active = e .active;
             active' = e .active';
           };
-          silent = rw (e .active') (silent-updated stands p b (g .floor) (v .state) i j (h .0 .0) (h .1 .0) (h .0 .1) (h .1 .1) (k .long) (k .silent));
-          long = rw (length-updated p b (g .floor) (v .state) i j (v .run .active)) (k .long);
+          silent = rw (e .active') (silent-updated stands p b (g .mode) (g .floor) (v .state) i j (h .0 .0) (h .1 .0) (h .0 .1) (h .1 .1) (k .long) (k .silent));
+          long = rw (length-updated p b (g .mode) (g .floor) (v .state) i j (v .run .active)) (k .long);
         }
 
     ended-goes : (w v : Full) → Goes w v → Goes (withRun w (ended (w .run))) (withRun v (ended (v .run)))
@@ -105,7 +106,7 @@ module _ (stands : ℕ → Bool) (g : Given) (m : List ℕ) (off : g .shrinking 
     worked-goes : (w v : Full) (c : Choice) → chosen g m w ≡ c → chosenOver stands g m (v .state) ≡ c → Goes w v → Goes (workedBy g m b w c) (passedOn stands g m b v c)
     unfolding workedBy passedOn looked
     worked-goes w v (Pair i j) q r k = step-goes w v i j (chosen-stands stands g m m (v .state) (v .state) (alike-self stands p (v .state)) i j r) k
-    worked-goes w v Optimal q r k = rw (rebuilt-off g m w (k .kin .active), q) (ended-goes w v k)
+    worked-goes w v Optimal q r k = rw (refreshed-off g m w (k .kin .active), q) (ended-goes w v k)
 
     pass-goes : (w v : Full) → goes (v .run .status) ≡ true → Goes w v → Goes (passed g m b w) (passedOn stands g m b v (chosenOver stands g m (v .state)))
     unfolding passed onward

@@ -39,12 +39,12 @@ module _ (stands : ℕ → Bool) (n : ℕ) (f : List Float) where
     unfolding shareCOver
     share-c-passes = passed-over stands _ _ (shareCOver stands n f y) refl (λ k. refl)
 
-    pub share-nu-passes : (label k : ℕ) → shareNuOver stands n f y label k
-        ≡ folded (λ j s. joinedNu (eqb (getD y j 0) label) (alphaIn n f j) (getD f j nan) s) noShare (standing stands k)
+    pub share-nu-passes : (r : Bool) (label k : ℕ) → shareNuOver stands n f y r label k
+        ≡ folded (λ j s. joinedNu r (eqb (getD y j 0) label) (alphaIn n f j) (getD f j nan) s) noShare (standing stands k)
     unfolding shareNuOver joinedNu
-    share-nu-passes label = passed-over stands _ _ (shareNuOver stands n f y label) refl (λ k. go k (stands k))
+    share-nu-passes r label = passed-over stands _ _ (shareNuOver stands n f y r label) refl (λ k. go k (stands k))
       where
-        go : (k : ℕ) (b : Bool) → joinedNu (b && eqb (getD y k 0) label) (alphaIn n f k) (getD f k nan) (shareNuOver stands n f y label k)
-            ≡ cond b (joinedNu (eqb (getD y k 0) label) (alphaIn n f k) (getD f k nan) (shareNuOver stands n f y label k)) (shareNuOver stands n f y label k)
+        go : (k : ℕ) (b : Bool) → joinedNu r (b && eqb (getD y k 0) label) (alphaIn n f k) (getD f k nan) (shareNuOver stands n f y r label k)
+            ≡ cond b (joinedNu r (eqb (getD y k 0) label) (alphaIn n f k) (getD f k nan) (shareNuOver stands n f y r label k)) (shareNuOver stands n f y r label k)
         go k true = refl
         go k false = refl

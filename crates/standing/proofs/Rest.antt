@@ -65,13 +65,13 @@ module _ (stands : ℕ → Bool) (g : Given) (m : List ℕ) (b : List Float) whe
         let q = r .active in
         record {
           floats = record {
-            long = length-updated p b (g .floor) (w .state) i j a ∙ r .floats .long;
-            at = λ k l. behind p b (g .floor) (w .state) i j a (h .0 .0) (h .1 .0) (omega arith) (rw (r .floats .long) room) k (omega arith) ∙ r .floats .at k l;
+            long = length-updated p b (g .mode) (g .floor) (w .state) i j a ∙ r .floats .long;
+            at = λ k l. behind p b (g .mode) (g .floor) (w .state) i j a (h .0 .0) (h .1 .0) (omega arith) (rw (r .floats .long) room) k (omega arith) ∙ r .floats .at k l;
           };
           labels = r .labels;
           active = q;
           gone = λ k l z.
-              ap (λ (x : Alpha). x .value) (alpha-other p b (g .floor) (w .state) i j a (h .0 .0) (h .1 .0) (omega arith) (rw (r .floats .long) room) k l
+              ap (λ (x : Alpha). x .value) (alpha-other p b (g .mode) (g .floor) (w .state) i j a (h .0 .0) (h .1 .0) (omega arith) (rw (r .floats .long) room) k l
               (λ e. true≢false (sym (h .0 .1) ∙ ap stands (sym e) ∙ z)) (λ e. true≢false (sym (h .1 .1) ∙ ap stands (sym e) ∙ z)))
               ∙ r .gone k l z;
         }

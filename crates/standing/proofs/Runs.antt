@@ -61,9 +61,9 @@ module _ (stands : ℕ → Bool) (g : Given) (m m' : List ℕ) where
           active = r .active;
           order = r .order;
           alike = rw (r .active, e)
-              (updated-alike stands (g .n) (g .side) (g .kind) m m' b c B (g .floor) (w .state) (v .state) (r .alike) (r .long) (r .long') i j (h .0 .0) (h .1 .0) (h .0 .1) (h .1 .1));
-          long = rw (length-updated (problemOf g m) b (g .floor) (w .state) i j (w .run .active)) (r .long);
-          long' = rw (length-updated (problemOf g m') c (g .floor) (v .state) i j (v .run .active)) (r .long');
+              (updated-alike stands (g .n) (g .side) (g .kind) m m' b c B (g .mode) (g .floor) (w .state) (v .state) (r .alike) (r .long) (r .long') i j (h .0 .0) (h .1 .0) (h .0 .1) (h .1 .1));
+          long = rw (length-updated (problemOf g m) b (g .mode) (g .floor) (w .state) i j (w .run .active)) (r .long);
+          long' = rw (length-updated (problemOf g m') c (g .mode) (g .floor) (v .state) i j (v .run .active)) (r .long');
         }
 
     pass-twins : (w v : Full) (x : Choice) → chosenOver stands g m (w .state) ≡ x → Twins w v → Twins (passedOn stands g m b w x) (passedOn stands g m' c v x)

@@ -125,7 +125,7 @@ module _ (stands : ℕ → Bool) (g : Given) (m : List ℕ) (b : List Float) whe
 
   -- ---- what each update keeps
 
-  module _ (K : State → Type 0) (on-pair : (s : State) (i j : ℕ) → i < g .n → j < g .n → K s → K (updatedState p b (g .floor) s i j (g .n))) where
+  module _ (K : State → Type 0) (on-pair : (s : State) (i j : ℕ) → i < g .n → j < g .n → K s → K (updatedState p b (g .mode) (g .floor) s i j (g .n))) where
     pass-keeps : (w : Full) (c : Choice) → chosenOver stands g m (w .state) ≡ c → All K w → All K (passedOn stands g m b w c)
     unfolding passedOn stepped
     pass-keeps w (Pair i j) e k =
@@ -152,6 +152,6 @@ module _ (stands : ℕ → Bool) (g : Given) (m : List ℕ) (b : List Float) whe
       let x : ℕ → ℕ = λ k. getD (s .labels) k 0 in
       let y : ℕ → Float = λ k. getD (s .floats) (4 * g .n + k) nan in
       runs-keep (Settled p x y)
-      (λ u i j hi hj k. settled-stays p x y u (updated p b (g .floor) u i j (g .n)) (updated-stays p u b (g .floor) i j (g .n) hi hj (omega arith) (k .ready)) k)
+      (λ u i j hi hj k. settled-stays p x y u (updated p b (g .mode) (g .floor) u i j (g .n)) (updated-stays p u b (g .mode) (g .floor) i j (g .n) hi hj (omega arith) (k .ready)) k)
       (startOf g m b s) t
       (record { kept = settled-stays p x y s (started p b s) (started-stays p s b) (record { ready = r; travelled = fresh-travelled p s r h }); active = refl }) .kept .travelled

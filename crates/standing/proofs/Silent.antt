@@ -22,7 +22,7 @@ use Rattle.floats.proofs.Laws.{max-nan, min-nan}
 use Rattle.partner.specs.Curvature.{gapOf}
 use Rattle.partner.specs.Second.{isAt, placeOf, follows, gainOf, second, paired, pairedWith, choice}
 use Rattle.partner.specs.Sides.{riseOf, fallOf, mayRise, mayFall, rise, fall}
-use Rattle.rho.specs.Rho.{lbRaised, ubLowered, ubRaised, signed, shareWithC, shareWithNu, joinedNu, positiveIn, shareC, shareNu, middle, levelOf, levelBy}
+use Rattle.rho.specs.Rho.{lbRaised, ubLowered, ubRaised, ubMoved, signed, shareWithC, shareWithNu, joinedNu, positiveIn, shareC, shareNu, middle, levelOf, levelBy}
 use Rattle.rho.specs.declared.Share.{Share}
 use Rattle.rounding.proofs.Nan.{lt-nan, le-nan, add-nan, sub-nan, mul-nan}
 use Rattle.state.specs.Fields.{gradient, alpha, alphaIn, positive}
@@ -173,13 +173,14 @@ module _ (stands : ℕ → Bool) (p : Problem) (s : State) (S : Silent stands p 
       go false true = low-nan e
       go false false = lb-nan e
 
-  weighed-nu-nan : (w : Alpha) (e : Share) → atLower w ≡ true → shareWithNu w nan e ≡ e
-  unfolding shareWithNu
-  weighed-nu-nan w e h = rw h (go (atUpper w))
+  weighed-nu-nan : (x : Bool) (w : Alpha) (e : Share) → atLower w ≡ true → shareWithNu x w nan e ≡ e
+  unfolding shareWithNu ubMoved
+  weighed-nu-nan x w e h = rw h (go (atUpper w) x)
     where
-      go : (y : Bool) → cond y (lbRaised e nan) (ubRaised e nan) ≡ e
-      go true = lb-nan e
-      go false = high-nan e
+      go : (y x : Bool) → cond y (lbRaised e nan) (cond x (ubLowered e nan) (ubRaised e nan)) ≡ e
+      go true x = lb-nan e
+      go false true = low-nan e
+      go false false = high-nan e
 
   share-c-silent : (a : ℕ) → a ≤ p .n → shareC (p .n) (s .floats) (s .labels) a ≡ shareCOver stands (p .n) (s .floats) (s .labels) a
   unfolding shareC shareCOver
@@ -202,10 +203,10 @@ module _ (stands : ℕ → Bool) (p : Problem) (s : State) (S : Silent stands p 
       go true h z = rw z
       go false h z = rw (S .gradients a (omega arith) h, signed-nan x) (weighed-nan x w e (S .weights a (omega arith) h) ∙ z)
 
-  share-nu-silent : (label a : ℕ) → a ≤ p .n → shareNu (p .n) (s .floats) (s .labels) label a ≡ shareNuOver stands (p .n) (s .floats) (s .labels) label a
+  share-nu-silent : (r : Bool) (label a : ℕ) → a ≤ p .n → shareNu r (p .n) (s .floats) (s .labels) label a ≡ shareNuOver stands (p .n) (s .floats) (s .labels) r label a
   unfolding shareNu shareNuOver joinedNu
-  share-nu-silent label zero l = refl
-  share-nu-silent label (suc a) l = go (stands a) refl (share-nu-silent label a (omega arith))
+  share-nu-silent r label zero l = refl
+  share-nu-silent r label (suc a) l = go (stands a) refl (share-nu-silent r label a (omega arith))
     where
       x : Bool
       x = eqb (getD (s .labels) a 0) label
@@ -214,20 +215,20 @@ module _ (stands : ℕ → Bool) (p : Problem) (s : State) (S : Silent stands p 
       w = alphaIn (p .n) (s .floats) a
 
       e : Share
-      e = shareNu (p .n) (s .floats) (s .labels) label a
+      e = shareNu r (p .n) (s .floats) (s .labels) label a
 
       e' : Share
-      e' = shareNuOver stands (p .n) (s .floats) (s .labels) label a
+      e' = shareNuOver stands (p .n) (s .floats) (s .labels) r label a
 
-      same : (x : Bool) → shareWithNu w nan e ≡ e → cond x (shareWithNu w nan e) e ≡ e
+      same : (x : Bool) → shareWithNu r w nan e ≡ e → cond x (shareWithNu r w nan e) e ≡ e
       same true z = z
       same false z = refl
 
-      go : (y : Bool) → stands a ≡ y → e ≡ e' → joinedNu x w (getD (s .floats) a nan) e ≡ joinedNu (y && x) w (getD (s .floats) a nan) e'
+      go : (y : Bool) → stands a ≡ y → e ≡ e' → joinedNu r x w (getD (s .floats) a nan) e ≡ joinedNu r (y && x) w (getD (s .floats) a nan) e'
       go true h z = rw z
-      go false h z = rw (S .gradients a (omega arith) h) (same x (weighed-nu-nan w e (S .weights a (omega arith) h)) ∙ z)
+      go false h z = rw (S .gradients a (omega arith) h) (same x (weighed-nu-nan r w e (S .weights a (omega arith) h)) ∙ z)
 
-  pub level-silent : (nu : Bool) → levelBy nu (p .n) (s .floats) (s .labels) (p .n) ≡ levelOver stands (p .n) (s .floats) (s .labels) nu
+  pub level-silent : (nu x : Bool) → levelBy nu x (p .n) (s .floats) (s .labels) (p .n) ≡ levelOver stands (p .n) (s .floats) (s .labels) nu x
   unfolding levelBy levelOver
-  level-silent true = ap₂ (λ (x y : Share). levelOf (middle x) (middle y)) (share-nu-silent 1 (p .n) (omega arith)) (share-nu-silent 0 (p .n) (omega arith))
-  level-silent false = ap (λ (x : Share). record { rho = middle x; r = ofBits binary64 0 }) (share-c-silent (p .n) (omega arith))
+  level-silent true r = ap₂ (λ (x y : Share). levelOf (middle x) (middle y)) (share-nu-silent r 1 (p .n) (omega arith)) (share-nu-silent r 0 (p .n) (omega arith))
+  level-silent false r = ap (λ (x : Share). record { rho = middle x; r = ofBits binary64 0 }) (share-c-silent (p .n) (omega arith))

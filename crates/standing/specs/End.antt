@@ -20,14 +20,14 @@ module _ (stands : ℕ → Bool) (n : ℕ) (f : List Float) where
         cond (stands k) (shareWithC (positiveIn y k) (alphaIn n f k) (signed (positiveIn y k) (getD f k nan)) s) s
 
     -- of the positions of one label, 1 or 0
-    unfoldable pub shareNuOver : ℕ → ℕ → Share
-    shareNuOver label zero = noShare
-    shareNuOver label (suc k) = joinedNu (stands k && eqb (getD y k 0) label) (alphaIn n f k) (getD f k nan) (shareNuOver label k)
+    unfoldable pub shareNuOver : Bool → ℕ → ℕ → Share
+    shareNuOver repaired label zero = noShare
+    shareNuOver repaired label (suc k) = joinedNu repaired (stands k && eqb (getD y k 0) label) (alphaIn n f k) (getD f k nan) (shareNuOver repaired label k)
 
     -- by the rule that holds; r is +0 without the nu rule
-    unfoldable pub levelOver : Bool → Level
-    levelOver nu =
-        cond nu (levelOf (middle (shareNuOver 1 n)) (middle (shareNuOver 0 n)))
+    unfoldable pub levelOver : Bool → Bool → Level
+    levelOver nu repaired =
+        cond nu (levelOf (middle (shareNuOver repaired 1 n)) (middle (shareNuOver repaired 0 n)))
         (record { rho = middle (shareCOver n); r = ofBits binary64 0 })
 
   -- the sum of weight·(gradient + linear term), in order

@@ -20,6 +20,7 @@ use Rattle.choose_nu.specs.Choice.{choiceNu}
 use Rattle.choose_nu.proofs.Rule as Nu
 use Rattle.extreme.specs.declared.Choice.{Choice}
 use Rattle.extreme.specs.declared.Choice.the-variants.{Pair, Optimal}
+use Rattle.modes.specs.Modes.{repaired}
 use Rattle.reconstruct.specs.Reconstruct.{reconstructed}
 use Rattle.shrink.specs.Drops.{dropsAt}
 use Rattle.shrink.specs.declared.Limits.{Limits}
@@ -27,10 +28,11 @@ use Rattle.shrink.proofs.Walks.{walks}
 use Rattle.start.specs.Start.{started}
 use Rattle.state.specs.Lists.{State, state, over}
 use Rattle.state.specs.Moving.{moved}
-use Rattle.solver.specs.End.{activeAt, closed, trained}
-use Rattle.solver.specs.Pass.{ten, chosen, rebuilt, topsOf, restored, walkedFrom, shrunk, countedDown, stepped, looked, workedBy, onward, passed, next, runs}
-use Rattle.solver.specs.Run.{readyOf, problemOf, Full, full, withRun, goes, counterAt, reopened, period}
+use Rattle.solver.specs.End.{closed, trained}
+use Rattle.solver.specs.Pass.{ten, chosen, rebuilt, refreshed, topsOf, restored, walkedFrom, shrunk, countedDown, stepped, looked, workedBy, onward, passed, next, runs}
+use Rattle.solver.specs.Run.{readyOf, problemOf, Full, full, withRun, goes, counterAt, activeAt, reopened, period}
 use Rattle.solver.specs.declared.Given.{Given}
+use Rattle.solver.specs.declared.Run.{Run}
 use Rattle.solver.proofs.Laws.{chosen-below}
 use Rattle.update.specs.Update.{updatedState}
 use Rattle.trace.specs.Trace.{lookBy, lookAt}
@@ -54,14 +56,14 @@ module _ (g : Given) (m : List ℕ) where
 
   -- for what asks of the pair only that it is of two active positions
   pub pair-keeps : (P : State → Type 0) (b : List Float)
-      → ((s : State) (i j a : ℕ) → i < a → j < a → a ≤ g .n → (i ≡ j → ⊥) → P s → P (updatedState (problemOf g m) b (g .floor) s i j a))
-      → (w : Full) (i j : ℕ) → chosen g m w ≡ Pair i j → Keeps g P w → P (updatedState (problemOf g m) b (g .floor) (w .state) i j (w .run .active))
+      → ((s : State) (i j a : ℕ) → i < a → j < a → a ≤ g .n → (i ≡ j → ⊥) → P s → P (updatedState (problemOf g m) b (g .mode) (g .floor) s i j a))
+      → (w : Full) (i j : ℕ) → chosen g m w ≡ Pair i j → Keeps g P w → P (updatedState (problemOf g m) b (g .mode) (g .floor) (w .state) i j (w .run .active))
   pair-keeps P b on-pair w i j e k =
       let l = chosen-below g m w i j e in
       on-pair (w .state) i j (w .run .active) (l .0) (l .1) (k .active) (chosen-apart w i j e) (k .kept)
 
   module _ (P : State → Type 0)
-      (on-rebuilt : (s : State) (a : ℕ) → a ≤ g .n → P s → P (over s (reconstructed (problemOf g m) a s)))
+      (on-rebuilt : (s : State) (a : ℕ) → a ≤ g .n → P s → P (over s (reconstructed (problemOf g m) (repaired (g .mode)) a s)))
       (on-moved : (s : State) (i j : ℕ) → i < g .n → j < g .n → P s → P (moved (g .n) s i j)) where
     abbrev K : Full → Type 0
     K = Keeps g P
@@ -74,6 +76,14 @@ module _ (g : Given) (m : List ℕ) where
     unfolding rebuilt
     rebuilt-keeps w k = record { kept = on-rebuilt (w .state) (w .run .active) (k .active) (k .kept); active = k .active }
 
+    either-active : (x : Bool) (r : Run) → r .active ≤ g .n → cond x (activeAt r (g .n)) r .active ≤ g .n
+    either-active true r h = omega arith
+    either-active false r h = h
+
+    pub refreshed-keeps : (w : Full) → K w → K (refreshed g m w)
+    unfolding refreshed
+    refreshed-keeps w k = record { kept = rebuilt-keeps w k .kept; active = either-active (repaired (g .mode)) (w .run) (k .active) }
+
     restored-keeps : (level : Float) (w : Full) → K w → K (restored g m level w)
     unfolding restored
     restored-keeps level w k =
@@ -83,7 +93,7 @@ module _ (g : Given) (m : List ℕ) where
     walked-keeps : (l : Limits) (w : Full) → K w → K (walkedFrom g m l w)
     unfolding walkedFrom
     walked-keeps l w k =
-        let r = walks (g .n) P (moved (g .n)) on-moved (dropsAt (g .n) l) (w .run .active) (k .active) (w .state) (w .run .active) (k .active) (k .kept) in
+        let r = walks (g .n) P (moved (g .n)) on-moved (l .ends) (dropsAt (g .n) l) (w .run .active) (k .active) (w .state) (w .run .active) (k .active) (k .kept) in
         record { kept = r .kept; active = omega (arith, r .most, k .active) }
 
     pub shrunk-keeps : (w : Full) → K w → K (shrunk g m w)
@@ -111,11 +121,11 @@ module _ (g : Given) (m : List ℕ) where
       where
         go : (c : Choice) → K (lookBy g m v c)
         go (Pair i j) = k
-        go Optimal = rebuilt-keeps v k
+        go Optimal = refreshed-keeps v k
 
     -- an update from a state w whose choice is i and j keeps it
     module _ (b : List Float)
-        (on-updated : (w : Full) (i j : ℕ) → chosen g m w ≡ Pair i j → K w → P (updatedState (problemOf g m) b (g .floor) (w .state) i j (w .run .active))) where
+        (on-updated : (w : Full) (i j : ℕ) → chosen g m w ≡ Pair i j → K w → P (updatedState (problemOf g m) b (g .mode) (g .floor) (w .state) i j (w .run .active))) where
       looked-keeps : (w : Full) (c : Choice) → chosen g m w ≡ c → K w → K (looked g m b w c)
       unfolding looked stepped
       looked-keeps w (Pair i j) e k = record { kept = on-updated w i j e k; active = k .active }
@@ -124,7 +134,7 @@ module _ (g : Given) (m : List ℕ) where
       worked-keeps : (w : Full) (c : Choice) → chosen g m w ≡ c → K w → K (workedBy g m b w c)
       unfolding workedBy stepped
       worked-keeps w (Pair i j) e k = record { kept = on-updated w i j e k; active = k .active }
-      worked-keeps w Optimal e k = looked-keeps (rebuilt g m w) (chosen g m (rebuilt g m w)) refl (rebuilt-keeps w k)
+      worked-keeps w Optimal e k = looked-keeps (refreshed g m w) (chosen g m (refreshed g m w)) refl (refreshed-keeps w k)
 
       onward-keeps : (x : Bool) (w : Full) → K w → K (onward g m b x w)
       unfolding onward

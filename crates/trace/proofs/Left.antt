@@ -15,8 +15,9 @@ use lib.ListN.{length, getD, length-append, List·getD-append}
 use lib.Seq.{getD-at}
 use Rattle.extreme.specs.declared.Choice.{Choice}
 use Rattle.extreme.specs.declared.Choice.the-variants.{Pair, Optimal}
+use Rattle.modes.specs.Modes.{repaired}
 use Rattle.reconstruct.specs.Reconstruct.{reconstructed}
-use Rattle.solver.specs.Pass.{chosen, rebuilt, countedDown, passed, runs}
+use Rattle.solver.specs.Pass.{chosen, rebuilt, refreshed, countedDown, passed, runs}
 use Rattle.solver.specs.Run.{problemOf, Full, goes}
 use Rattle.solver.specs.declared.Given.{Given}
 use Rattle.solver.proofs.Laws.{chosen-below}
@@ -27,8 +28,8 @@ use Rattle.state.proofs.Moves.{length-fields}
 use Rattle.update.specs.Update.{pairAt}
 use Rattle.update.proofs.Left.{alpha-i, alpha-j}
 use Rattle.trace.specs.Trace.{Step, lookBy, lookAt, pairFrom, stepAt, stepsOf, added, traced}
-use Rattle.trace.proofs.Kept.{chosen-apart, rebuilt-keeps, counted-keeps}
-use Rattle.trace.proofs.Passes.{look-run, pass-steps, pair-look}
+use Rattle.trace.proofs.Kept.{chosen-apart, refreshed-keeps, counted-keeps, look-keeps}
+use Rattle.trace.proofs.Passes.{pass-steps, pair-look}
 use Rattle.trace.proofs.Rests.{same-reconstructed}
 use Rattle.trace.proofs.Trace.{steps-going}
 
@@ -37,38 +38,38 @@ module _ (g : Given) (m : List ℕ) where
   abbrev pub Roomy : State → Type 0
   Roomy s = 7 * g .n ≤ length (s .floats)
 
-  roomy-rebuilt : (s : State) (a : ℕ) → a ≤ g .n → Roomy s → Roomy (over s (reconstructed (problemOf g m) a s))
-  roomy-rebuilt s a l r = rw (same-reconstructed (problemOf g m) a l 0 s .long) r
+  roomy-rebuilt : (s : State) (a : ℕ) → a ≤ g .n → Roomy s → Roomy (over s (reconstructed (problemOf g m) (repaired (g .mode)) a s))
+  roomy-rebuilt s a l r = rw (same-reconstructed (problemOf g m) (repaired (g .mode)) a l 0 s .long) r
 
   roomy-moved : (s : State) (i j : ℕ) → i < g .n → j < g .n → Roomy s → Roomy (moved (g .n) s i j)
   unfolding moved
   roomy-moved s i j a b r = rw (length-fields nan (g .n) (s .floats) i j 5) r
 
   look-numbers : (v : Full) (c : Choice) → lookBy g m v c .state .numbers ≡ v .state .numbers
-  unfolding lookBy rebuilt
+  unfolding lookBy refreshed rebuilt
   look-numbers v (Pair i j) = refl
   look-numbers v Optimal = refl
 
   look-roomy : (v : Full) (c : Choice) → v .run .active ≤ g .n → Roomy (v .state) → Roomy (lookBy g m v c .state)
   unfolding lookBy
   look-roomy v (Pair i j) l r = r
-  look-roomy v Optimal l r = rebuilt-keeps g m Roomy roomy-rebuilt roomy-moved v (record { kept = r; active = l }) .kept
+  look-roomy v Optimal l r = refreshed-keeps g m Roomy roomy-rebuilt roomy-moved v (record { kept = r; active = l }) .kept
 
   module _ (b : List Float) where
     -- e is the step that the pass which begins in w adds
     pub record StepLeft (w : Full) (e : Step) : Type 0 where
       pub adds : added g m b true w ≡ e ∷ []
       -- of two active positions
-      pub active-i : e .i < countedDown g m w .run .active
-      pub active-j : e .j < countedDown g m w .run .active
-      pub below : countedDown g m w .run .active ≤ g .n
+      pub active-i : e .i < lookAt g m (countedDown g m w) .run .active
+      pub active-j : e .j < lookAt g m (countedDown g m w) .run .active
+      pub below : lookAt g m (countedDown g m w) .run .active ≤ g .n
       pub apart : e .i ≡ e .j → ⊥
       -- of the samples that stood there when the pair was chosen
       pub stood-i : e .sampleI ≡ sample (countedDown g m w .state) (e .i)
       pub stood-j : e .sampleJ ≡ sample (countedDown g m w .state) (e .j)
       -- the weights are those of the update's pair, and those that stand there after the pass
-      pub pair-i : e .leftI ≡ pairAt (problemOf g m) b (g .floor) (lookAt g m (countedDown g m w) .state) (e .i) (e .j) .i .value
-      pub pair-j : e .leftJ ≡ pairAt (problemOf g m) b (g .floor) (lookAt g m (countedDown g m w) .state) (e .i) (e .j) .j .value
+      pub pair-i : e .leftI ≡ pairAt (problemOf g m) b (g .mode) (g .floor) (lookAt g m (countedDown g m w) .state) (e .i) (e .j) .i .value
+      pub pair-j : e .leftJ ≡ pairAt (problemOf g m) b (g .mode) (g .floor) (lookAt g m (countedDown g m w) .state) (e .i) (e .j) .j .value
       pub after-i : e .leftI ≡ alpha (problemOf g m) (passed g m b w .state) (e .i) .value
       pub after-j : e .leftJ ≡ alpha (problemOf g m) (passed g m b w .state) (e .j) .value
 
@@ -80,10 +81,9 @@ module _ (g : Given) (m : List ℕ) where
         let u = lookAt g m v in
         let k = counted-keeps g m Roomy roomy-rebuilt roomy-moved w (record { kept = r; active = l }) in
         let c = pair-look g m w i j e in
-        let same = ap (λ q. q .active) (look-run g m v (chosen g m v)) in
         let inside = chosen-below g m u i j c in
         let apart = chosen-apart g m u i j c in
-        let few = k .active in
+        let few = look-keeps g m Roomy roomy-rebuilt roomy-moved v k .active in
         let step = pass-steps g m b w i j e in
         let room = look-roomy v (chosen g m v) (k .active) (k .kept) in
         let i-in = inside .0 in
@@ -91,18 +91,18 @@ module _ (g : Given) (m : List ℕ) where
         let stood : passed g m b w .state .numbers ≡ v .state .numbers = ap (λ (s : State). s .numbers) (step .state) ∙ look-numbers v (chosen g m v) in
         record {
           adds = rw e;
-          active-i = rw same at i-in;
-          active-j = rw same at j-in;
+          active-i = i-in;
+          active-j = j-in;
           below = few;
           apart = apart;
           stood-i = ap (λ (u : List ℕ). getD u i 0) stood;
           stood-j = ap (λ (u : List ℕ). getD u j 0) stood;
           pair-i =
               ap (λ (s : State). alpha p s i .value) (step .state)
-              ∙ ap (λ a. a .value) (alpha-i p b (g .floor) (u .state) i j (u .run .active) (omega arith) (omega arith) (omega arith) room apart);
+              ∙ ap (λ a. a .value) (alpha-i p b (g .mode) (g .floor) (u .state) i j (u .run .active) (omega arith) (omega arith) (omega arith) room apart);
           pair-j =
               ap (λ (s : State). alpha p s j .value) (step .state)
-              ∙ ap (λ a. a .value) (alpha-j p b (g .floor) (u .state) i j (u .run .active) (omega arith) (omega arith) (omega arith) room);
+              ∙ ap (λ a. a .value) (alpha-j p b (g .mode) (g .floor) (u .state) i j (u .run .active) (omega arith) (omega arith) (omega arith) room);
           after-i = refl;
           after-j = refl;
         }

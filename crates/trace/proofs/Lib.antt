@@ -4,6 +4,7 @@ pub mod Kept
 pub mod Passes
 pub mod Off
 pub mod Trace
+pub mod Modes
 pub mod Left
 pub mod Rule
 pub mod Worked

@@ -14,7 +14,7 @@ use lib.ListN.{length, getD, set, length-set}
 use lib.Seq.{getD-set-other}
 use Rattle.alpha.specs.Weight.{atUpper, atLower, isFree, zero as nought}
 use Rattle.alpha.specs.declared.Alpha.{Alpha}
-use Rattle.reconstruct.specs.Reconstruct.{freshTo, freeTo, outerBy, outerAt, outerTo, innerBy, innerAt, innerTo, branched, reconstructed}
+use Rattle.reconstruct.specs.Reconstruct.{freshTo, freeTo, gets, outerBy, outerAt, outerTo, innerBy, innerAt, innerTo, branched, reconstructed}
 use Rattle.rows.specs.Added.{rowAdded}
 use Rattle.rows.proofs.Filled.{length-rowAdded, rowAdded-other}
 use Rattle.start.specs.Start.{laidTo, diagonalTo, joinedBy, joined, gatheredTo, started}
@@ -91,51 +91,59 @@ same-started p b s =
     (same-trans (2 * p .n) (5 * p .n) (s .floats) f g (same-laid p (5 * p .n) (s .floats) (p .n) (omega arith)) (same-diagonal p f (p .side)))
     (same-gathered p (5 * p .n) b (state g (s .numbers) (s .labels)) (p .n))
 
--- ---- reconstruction: all but gradients stays
+-- ---- reconstruction: all but inactive gradients stays
 
-module _ (p : Problem) (a : ℕ) (A : a ≤ p .n) (hi : ℕ) where
-  same-fresh : (f : List Float) (k : ℕ) → k ≤ p .n - a → Same (p .n) hi f (freshTo (p .n) a f k)
+module _ (p : Problem) (a : ℕ) (A : a ≤ p .n) (x : Bool) (lo hi : ℕ) (out : (q : ℕ) → lo ≤ q → q < hi → a ≤ q → q < p .n → ⊥) where
+  same-fresh : (f : List Float) (k : ℕ) → k ≤ p .n - a → Same lo hi f (freshTo (p .n) a f k)
   unfolding freshTo
-  same-fresh f zero l = same-refl (p .n) hi f
+  same-fresh f zero l = same-refl lo hi f
   same-fresh f (suc k) l =
       let g = freshTo (p .n) a f k in
-      same-trans (p .n) hi f g _ (same-fresh f k (omega arith)) (same-set (p .n) hi g (a + k) _ (λ q c d e. omega arith))
+      same-trans lo hi f g _ (same-fresh f k (omega arith)) (same-set lo hi g (a + k) _ (λ q c d e. out q c d (omega arith) (omega arith)))
 
-  same-outer-one : (s : State) (i : ℕ) (w : Alpha) → i < p .n → Same (p .n) hi (s .floats) (outerBy p s a i w)
+  same-outer-one : (s : State) (i : ℕ) (w : Alpha) → a ≤ i → i < p .n → Same lo hi (s .floats) (outerBy p x s a i w)
   unfolding outerBy
-  same-outer-one s i w l =
-      same-either (p .n) hi (s .floats) _ (s .floats) (isFree w) (same-set (p .n) hi (s .floats) i _ (λ q c d e. omega arith)) (same-refl (p .n) hi (s .floats))
+  same-outer-one s i w m l =
+      same-either lo hi (s .floats) _ (s .floats) (gets x w) (same-set lo hi (s .floats) i _ (λ q c d e. out q c d (omega arith) (omega arith))) (same-refl lo hi (s .floats))
 
-  same-outer : (s : State) (k : ℕ) → k ≤ p .n - a → Same (p .n) hi (s .floats) (outerTo p a s k)
+  same-outer : (s : State) (k : ℕ) → k ≤ p .n - a → Same lo hi (s .floats) (outerTo p x a s k)
   unfolding outerTo
-  same-outer s zero l = same-refl (p .n) hi (s .floats)
+  same-outer s zero l = same-refl lo hi (s .floats)
   same-outer s (suc k) l =
-      let f = outerTo p a s k in
+      let f = outerTo p x a s k in
       let t = over s f in
-      same-trans (p .n) hi (s .floats) f (outerAt p t a (a + k)) (same-outer s k (omega arith)) (same-outer-one t (a + k) (alpha p t (a + k)) (omega arith))
+      same-trans lo hi (s .floats) f (outerAt p x t a (a + k)) (same-outer s k (omega arith)) (same-outer-one t (a + k) (alpha p t (a + k)) (omega arith) (omega arith))
 
-  same-inner-one : (s : State) (i : ℕ) (w : Alpha) → Same (p .n) hi (s .floats) (innerBy p s a i w)
+  same-inner-one : (s : State) (i : ℕ) (w : Alpha) → Same lo hi (s .floats) (innerBy p s a i w)
   unfolding innerBy
   same-inner-one s i w =
-      same-either (p .n) hi (s .floats) _ (s .floats) (isFree w)
-      (same-row (p .n) hi p s 0 (w .value) i a (p .n - a) (λ q h c d l e. omega arith)) (same-refl (p .n) hi (s .floats))
+      same-either lo hi (s .floats) _ (s .floats) (isFree w)
+      (same-row lo hi p s 0 (w .value) i a (p .n - a) (λ q h c d l e. out q c d (omega arith) (omega arith))) (same-refl lo hi (s .floats))
 
-  same-inner : (s : State) (k : ℕ) → Same (p .n) hi (s .floats) (innerTo p a s k)
+  same-inner : (s : State) (k : ℕ) → Same lo hi (s .floats) (innerTo p a s k)
   unfolding innerTo
-  same-inner s zero = same-refl (p .n) hi (s .floats)
+  same-inner s zero = same-refl lo hi (s .floats)
   same-inner s (suc k) =
       let f = innerTo p a s k in
       let t = over s f in
-      same-trans (p .n) hi (s .floats) f (innerAt p t a k) (same-inner s k) (same-inner-one t k (alpha p t k))
+      same-trans lo hi (s .floats) f (innerAt p t a k) (same-inner s k) (same-inner-one t k (alpha p t k))
 
-  same-branched : (s : State) → Same (p .n) hi (s .floats) (branched p a s)
+  same-branched : (s : State) → Same lo hi (s .floats) (branched p x a s)
   unfolding branched
   same-branched s =
-      same-either (p .n) hi (s .floats) _ _ (ltb (2 * a * (p .n - a)) (freeTo (p .n) (s .floats) a * p .n)) (same-outer s (p .n - a) (omega arith)) (same-inner s a)
+      same-either lo hi (s .floats) _ _ (ltb (2 * a * (p .n - a)) (freeTo (p .n) (s .floats) a * p .n)) (same-outer s (p .n - a) (omega arith)) (same-inner s a)
 
-  pub same-reconstructed : (s : State) → Same (p .n) hi (s .floats) (reconstructed p a s)
+  pub same-written : (s : State) → Same lo hi (s .floats) (reconstructed p x a s)
   unfolding reconstructed
-  same-reconstructed s =
+  same-written s =
       let f = freshTo (p .n) a (s .floats) (p .n - a) in
-      same-either (p .n) hi (s .floats) (s .floats) _ (eqb a (p .n)) (same-refl (p .n) hi (s .floats))
-      (same-trans (p .n) hi (s .floats) f _ (same-fresh (s .floats) (p .n - a) (omega arith)) (same-branched (over s f)))
+      same-either lo hi (s .floats) (s .floats) _ (eqb a (p .n)) (same-refl lo hi (s .floats))
+      (same-trans lo hi (s .floats) f _ (same-fresh (s .floats) (p .n - a) (omega arith)) (same-branched (over s f)))
+
+-- every field but the gradients
+pub same-reconstructed : (p : Problem) (x : Bool) (a : ℕ) → a ≤ p .n → (hi : ℕ) (s : State) → Same (p .n) hi (s .floats) (reconstructed p x a s)
+same-reconstructed p x a A hi s = same-written p a A x (p .n) hi (λ q c d e f. omega arith) s
+
+-- and the active gradients
+pub same-active : (p : Problem) (x : Bool) (a : ℕ) → a ≤ p .n → (s : State) → Same 0 a (s .floats) (reconstructed p x a s)
+same-active p x a A s = same-written p a A x 0 a (λ q c d e f. omega arith) s

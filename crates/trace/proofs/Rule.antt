@@ -28,9 +28,9 @@ use Rattle.partner.specs.Rule.{Pairs, NoSecond, Sum}
 use Rattle.partner.specs.Second.{choice, second}
 use Rattle.partner.proofs.Rule.{chosenBy, choice-pair, choice-optimal, sum-is}
 use Rattle.shrink.specs.Drops.{walkedOver}
-use Rattle.solver.specs.End.{activeAt, closed, trained}
-use Rattle.solver.specs.Pass.{ten, chosen, rebuilt, topsOf, restored, walkedFrom, shrunk, countedDown, looked, workedBy, onward, passed, next, runs}
-use Rattle.solver.specs.Run.{problemOf, Full, withRun, goes, counterAt, reopened, period}
+use Rattle.solver.specs.End.{closed, trained}
+use Rattle.solver.specs.Pass.{ten, chosen, rebuilt, refreshed, topsOf, restored, walkedFrom, shrunk, countedDown, looked, workedBy, onward, passed, next, runs}
+use Rattle.solver.specs.Run.{problemOf, Full, withRun, goes, counterAt, activeAt, reopened, period}
 use Rattle.solver.specs.declared.Given.{Given}
 use Rattle.solver.specs.declared.Status.{Status}
 use Rattle.solver.specs.declared.Status.the-variants.{Going, Done, Refused}
@@ -39,7 +39,7 @@ use Rattle.state.specs.Lists.{Problem, State}
 use Rattle.trace.specs.Rule as Words
 use Rattle.trace.specs.Rule.{Rises, Falls, isBelow, Level, ByRule, NoPair, PairIn, NoPairIn, Stops, Ended}
 use Rattle.trace.specs.Trace.{lookAt, pairFrom, startOf}
-use Rattle.trace.proofs.Passes.{look-run, pass-steps, pair-look, Ends, pass-ends}
+use Rattle.trace.proofs.Passes.{look-status, pass-steps, pair-look, Ends, pass-ends}
 use Rattle.trace.proofs.Trace.{iterations-are-steps, steps-going, closed-iterations}
 
 -- ---- the words, over those that stand
@@ -182,7 +182,7 @@ module _ (g : Given) (m : List ℕ) where
       where
         go : (c : Choice) → pairFrom g m w ≡ c → Ends g m b (countedDown g m w) (passed g m b w)
         go (Pair i j) e =
-            let same = ap (λ q. q .status) (look-run g m (countedDown g m w) (chosen g m (countedDown g m w))) in
+            let same = look-status g m (countedDown g m w) (chosen g m (countedDown g m w)) in
             absurd (counted-not-done w h (sym same ∙ sym (pass-steps g m b w i j e .status) ∙ d))
         go Optimal e = elim (pass-ends g m b w e) [
           | inl z ↦ absurd (counted-not-done w h (sym (ap (λ (x : Full). x .run .status) (z .1)) ∙ d))
@@ -203,12 +203,11 @@ module _ (g : Given) (m : List ℕ) where
     pub stop-by-rule : (w : Full) → w .run .status ≡ Going → passed g m b w .run .status ≡ Done → Stops g m (countedDown g m w)
     stop-by-rule w h d =
         let z = pass-done w h d in
-        record { first = none-words (countedDown g m w) .0 (z .first); second = none-words (rebuilt g m (countedDown g m w)) .0 (z .second) }
+        record { first = none-words (countedDown g m w) .0 (z .first); second = none-words (refreshed g m (countedDown g m w)) .0 (z .second) }
 
     -- so in what it leaves there is no pair
     pass-none : (w : Full) → w .run .status ≡ Going → passed g m b w .run .status ≡ Done → NoPairIn g m (passed g m b w)
-    unfolding rebuilt
-    pass-none w h d = let z = pass-done w h d in rw (z .state, z .active) (none-words (rebuilt g m (countedDown g m w)) .0 (z .second))
+    pass-none w h d = let z = pass-done w h d in rw (z .state, z .active) (none-words (refreshed g m (countedDown g m w)) .0 (z .second))
 
     -- a run that ended by itself ended with such a pass
     pub run-stops : (w : Full) (t : ℕ) → w .run .status ≡ Going → runs g m b w t .run .status ≡ Done → Ended g m b w t
@@ -236,7 +235,7 @@ module _ (g : Given) (m : List ℕ) where
     stops-done : (w : Full) → goes (countedDown g m w .run .status) ≡ true → Stops g m (countedDown g m w) → passed g m b w .run .status ≡ Done
     unfolding passed onward workedBy looked
     stops-done w o s =
-        rw (o, none-words (countedDown g m w) .1 (s .first), none-words (rebuilt g m (countedDown g m w)) .1 (s .second))
+        rw (o, none-words (countedDown g m w) .1 (s .first), none-words (refreshed g m (countedDown g m w)) .1 (s .second))
 
     pub ended-done : (w : Full) (t : ℕ) → Ended g m b w t → runs g m b w t .run .status ≡ Done
     ended-done w t e = ap (λ (x : Full). x .run .status) (e .last) ∙ stops-done (runs g m b w (e .pass)) (e .on) (e .stops)

@@ -24,13 +24,13 @@ use lib.Seq.{getD-at}
 use Rattle.extreme.specs.declared.Choice.{Choice}
 use Rattle.extreme.specs.declared.Choice.the-variants.{Pair, Optimal}
 use Rattle.state.specs.Lists.{State}
-use Rattle.solver.specs.End.{activeAt, closed, trained}
+use Rattle.solver.specs.End.{closed, trained}
 use Rattle.solver.specs.Pass.{chosen, rebuilt, countedDown, passed, next, runs}
-use Rattle.solver.specs.Run.{Full, goes, withRun}
+use Rattle.solver.specs.Run.{activeAt, Full, goes, withRun}
 use Rattle.solver.specs.declared.Given.{Given}
 use Rattle.solver.proofs.Laws.{counted-iterations, runs-off}
 use Rattle.trace.specs.Trace.{lookAt, pairFrom, stepsOf, added, traced, made, states, startOf, lastOf}
-use Rattle.trace.proofs.Passes.{look-run, pass-steps, pass-ends}
+use Rattle.trace.proofs.Passes.{look-iterations as look-counts, pass-steps, pass-ends}
 
 module _ (g : Given) (m : List ℕ) (b : List Float) (w : Full) where
   -- ---- pass by pass
@@ -127,7 +127,7 @@ module _ (g : Given) (m : List ℕ) (b : List Float) where
   look-iterations : (w : Full) → lookAt g m (countedDown g m w) .run .iterations ≡ w .run .iterations
   look-iterations w =
       let v = countedDown g m w in
-      ap (λ r. r .iterations) (look-run g m v (chosen g m v)) ∙ counted-iterations g m w
+      look-counts g m v (chosen g m v) ∙ counted-iterations g m w
 
   -- a pass is as many iterations as it adds steps
   pass-iterations : (w : Full) → passed g m b w .run .iterations ≡ w .run .iterations + length (stepsOf g m (passed g m b w) (pairFrom g m w))

@@ -12,14 +12,16 @@ use Rattle.extreme.specs.Best.{best}
 use Rattle.kernel.specs.Curvature.{curved}
 use Rattle.kernel.specs.Row.{rowAt}
 use Rattle.kernel.specs.declared.Kind.the-variants.{TwoClass}
+use Rattle.modes.specs.Modes.{travels, repaired}
+use Rattle.modes.specs.declared.Mode.the-variants.{Crate}
 use Rattle.partner.specs.Curvature as Curvature
 use Rattle.partner.specs.Second.{second, choice}
-use Rattle.reconstruct.specs.Reconstruct.{freshTo, counted, freeTo, weightedTo, outerBy, outerTo, innerBy, innerTo, branched, reconstructed}
+use Rattle.reconstruct.specs.Reconstruct.{freshTo, counted, freeTo, brought, gets, weightedTo, outerBy, outerTo, innerBy, innerTo, branched, reconstructed}
 use Rattle.rows.specs.Added.{rowAdded}
 use Rattle.shrink.specs.Drops.{dropsBy, dropsAt}
 use Rattle.shrink.specs.Walk.{countFallen, exchanged, dropped, visited, walked}
 use Rattle.solver.specs.Pass as Pass
-use Rattle.solver.specs.Pass.{chosen, rebuilt, topsOf, restored, walkedFrom, shrunk, countedDown, looked, workedBy, onward, passed, next, runs}
+use Rattle.solver.specs.Pass.{chosen, rebuilt, refreshed, topsOf, restored, walkedFrom, shrunk, countedDown, looked, workedBy, onward, passed, next, runs}
 use Rattle.solver.specs.Run.{goes, period}
 use Rattle.solver.specs.declared.Given.{Given}
 use Rattle.start.specs.Start.{laidTo, diagonalTo, joinedBy, gatheredTo, started}
@@ -27,12 +29,12 @@ use Rattle.state.specs.Lists.{State, state}
 use Rattle.state.specs.Moving.{swapped, swappedFields, moved}
 use Rattle.update.specs.Pair as Pair
 use Rattle.update.specs.Pair.{floored, stepOf, iCapped, jCapped, iRaised, jRaised, differLow, differHigh, differed, agreeFirst, agreeSecond, agreed, pairOf}
-use Rattle.update.specs.Update.{pairAt, shiftedTo, stored, turnedBy, settled, carried, updated}
+use Rattle.update.specs.Update.{ceilingIn, countedUpper, jReach, pairAt, shiftedTo, stored, turnedBy, settled, carried, updated}
 use Rattle.wire.specs.Wire.{digits}
 use Rattle.trace.specs.Trace.{Step, lookBy, pairOn, pairFrom, stepsOf, added, traced, startOf}
 
 abbrev pub given : Given
-given = record { n = 4; side = 4; kind = TwoClass; floor = floor; eps = fin false 0 (pos 0); shrinking = true; nu = false }
+given = record { n = 4; side = 4; kind = TwoClass; mode = Crate; floor = floor; eps = fin false 0 (pos 0); shrinking = true; nu = false }
 
 -- the bytes of 1 and of 0, before the list
 abbrev unit : List ℕ → List ℕ
@@ -78,5 +80,5 @@ steps =
 
 -- the sixth pass finds no pair at either look
 pub worked : traced given matrix ceilings (startOf given matrix ceilings lent) 7 ≡ steps
-unfolding traced added stepsOf pairFrom pairOn lookBy runs next passed onward workedBy looked Pass.stepped countedDown shrunk walkedFrom restored topsOf walked visited dropped exchanged countFallen moved swappedFields swapped dropsAt dropsBy rebuilt chosen goes period choiceC extremesC choice second best Curvature.curvature rowAt digits rowAdded started gatheredTo joinedBy diagonalTo laidTo reconstructed branched innerTo innerBy outerTo outerBy weightedTo freeTo counted freshTo updated carried settled turnedBy stored shiftedTo pairAt pairOf Pair.clippedStep agreed agreeSecond agreeFirst differed differHigh differLow jRaised iRaised jCapped iCapped stepOf floored curved Ieee.lt Ieee.le Ieee.eq Ieee.neg Ieee.add Ieee.sub Ieee.mul Ieee.div Ieee.ofBits
+unfolding traced added stepsOf pairFrom pairOn lookBy runs next passed onward workedBy looked Pass.stepped countedDown shrunk walkedFrom restored topsOf walked visited dropped exchanged countFallen moved swappedFields swapped dropsAt dropsBy rebuilt refreshed chosen goes period choiceC extremesC choice second best Curvature.curvature rowAt digits rowAdded started gatheredTo joinedBy diagonalTo laidTo reconstructed branched innerTo innerBy outerTo outerBy weightedTo brought gets freeTo counted freshTo updated carried settled turnedBy stored shiftedTo ceilingIn countedUpper jReach travels repaired pairAt pairOf Pair.clippedStep agreed agreeSecond agreeFirst differed differHigh differLow jRaised iRaised jCapped iCapped stepOf floored curved Ieee.lt Ieee.le Ieee.eq Ieee.neg Ieee.add Ieee.sub Ieee.mul Ieee.div Ieee.ofBits
 worked = refl

@@ -1,2 +1,3 @@
 pub mod Trace
 pub mod Rule
+pub mod Modes

@@ -10,7 +10,7 @@ use Rattle.choose_nu.specs.Rule.{RisesNu, FallsNu}
 use Rattle.extreme.specs.Rule.{everybody}
 use Rattle.floats.specs.Helpers.{maxOf}
 use Rattle.partner.specs.Rule.{Pairs, NoSecond, Sum}
-use Rattle.solver.specs.Pass.{rebuilt, countedDown, passed, runs}
+use Rattle.solver.specs.Pass.{refreshed, countedDown, passed, runs}
 use Rattle.solver.specs.Run.{problemOf, Full, goes}
 use Rattle.solver.specs.declared.Given.{Given}
 use Rattle.state.specs.Lists.{State}
@@ -56,7 +56,7 @@ module _ (g : Given) (m : List ℕ) where
   -- v is counted down: there is no pair at either look
   pub record Stops (v : Full) : Type 0 where
     pub first : NoPairIn v
-    pub second : NoPairIn (rebuilt g m v)
+    pub second : NoPairIn (refreshed g m v)
 
   -- the run from w ended by itself: with a pass before the t-th that goes on after its walk, and stops
   pub record Ended (b : List Float) (w : Full) (t : ℕ) : Type 0 where

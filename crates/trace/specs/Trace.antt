@@ -8,7 +8,7 @@ use Rattle.extreme.specs.declared.Choice.the-variants.{Pair, Optimal}
 use Rattle.start.specs.Start.{started}
 use Rattle.state.specs.Fields.{alpha, sample}
 use Rattle.state.specs.Lists.{State}
-use Rattle.solver.specs.Pass.{chosen, rebuilt, countedDown, passed, runs}
+use Rattle.solver.specs.Pass.{chosen, refreshed, countedDown, passed, runs}
 use Rattle.solver.specs.Run.{readyOf, problemOf, Full, full, goes}
 use Rattle.solver.specs.declared.Given.{Given}
 
@@ -25,7 +25,7 @@ module _ (g : Given) (m : List ℕ) where
   -- v is counted down, and c its first look: the state in which the pass takes its last look
   unfoldable pub lookBy : Full → Choice → Full
   lookBy v (Pair i j) = v
-  lookBy v Optimal = rebuilt g m v
+  lookBy v Optimal = refreshed g m v
 
   abbrev pub lookAt : Full → Full
   lookAt v = lookBy v (chosen g m v)

@@ -20,6 +20,7 @@ use lib.ListN.{length, getD}
 use Rattle.extreme.specs.declared.Choice.{Choice}
 use Rattle.extreme.specs.declared.Choice.the-variants.{Pair, Optimal}
 use Rattle.readings.specs.Order.{homeReading, weightIn, Perm}
+use Rattle.modes.specs.Modes.{repaired}
 use Rattle.reconstruct.specs.Reconstruct.{reconstructed}
 use Rattle.solver.specs.End.{trained}
 use Rattle.solver.specs.Pass.{chosen, countedDown, passed, next, runs}
@@ -32,7 +33,7 @@ use Rattle.state.specs.Lists.{Problem, State, Ready, over}
 use Rattle.state.specs.Moving.{moved}
 use Rattle.state.proofs.Kept.{ready-floats, ready-moved}
 use Rattle.trace.specs.Trace.{Step, lookBy, lookAt, pairFrom, stepAt, stepsOf, added, traced, startOf}
-use Rattle.trace.proofs.Kept.{Keeps, rebuilt-keeps, counted-keeps, closed-keeps}
+use Rattle.trace.proofs.Kept.{Keeps, refreshed-keeps, counted-keeps, closed-keeps}
 use Rattle.trace.proofs.Passes.{pair-look, pass-steps, pass-ends}
 use Rattle.trace.proofs.Rests.{same-started, same-reconstructed}
 use Rattle.update.specs.Update.{updatedState}
@@ -81,11 +82,11 @@ module _ (es fs : List Step) (e : Step) (s : ℕ) (x : Float) (h : AllMissed s f
 -- ---- what each part of a run does to the weights
 
 module _ (p : Problem) where
-  told-rebuilt : (x : ℕ → Float) (s : State) (a : ℕ) → a ≤ p .n → Told p x s → Told p x (over s (reconstructed p a s))
-  told-rebuilt x s a l w =
-      let e = same-reconstructed p a l (5 * p .n) s in
+  told-rebuilt : (x : ℕ → Float) (s : State) (a : ℕ) → a ≤ p .n → Told p x s → (y : Bool) → Told p x (over s (reconstructed p y a s))
+  told-rebuilt x s a l w y =
+      let e = same-reconstructed p y a l (5 * p .n) s in
       record {
-        ready = ready-floats (w .ready) (reconstructed p a s) (e .long);
+        ready = ready-floats (w .ready) (reconstructed p y a s) (e .long);
         order = w .order;
         weights = λ k c. e .at (2 * p .n + k) (omega arith) (omega arith) ∙ w .weights k c;
       }
@@ -110,11 +111,11 @@ module _ (g : Given) (m : List ℕ) (b : List Float) where
   p = problemOf g m
 
   -- one update from s leaves v: the two samples have what the step records, the others what they had
-  pub told-step : (x : ℕ → Float) (s : State) (v : Full) (i j a : ℕ) → i < a → j < a → a ≤ g .n → v .state ≡ updatedState p b (g .floor) s i j a
+  pub told-step : (x : ℕ → Float) (s : State) (v : Full) (i j a : ℕ) → i < a → j < a → a ≤ g .n → v .state ≡ updatedState p b (g .mode) (g .floor) s i j a
       → Told p x s → Told p (λ q. leftBy (stepAt g m v i j) q (x q)) (v .state)
   unfolding leftBy
   told-step x s v i j a I J A e w = record {
-    ready = rw e (ready-floats (w .ready) _ (length-updated p b (g .floor) s i j a));
+    ready = rw e (ready-floats (w .ready) _ (length-updated p b (g .mode) (g .floor) s i j a));
     order = rw e (w .order);
     weights = λ k c. go k c (ℕ-discrete k j) (ℕ-discrete k i);
   }
@@ -137,7 +138,7 @@ module _ (g : Given) (m : List ℕ) (b : List Float) where
             ne-eqb (sample (v .state) k) (sample (v .state) i) (λ t. y (one-place p (v .state .numbers) order k i c (omega arith) t)),
           )
           (ap (λ (t : State). weightIn (g .n) (t .floats) k) e
-          ∙ ap (λ t. t .value) (alpha-other p b (g .floor) s i j a (omega arith) (omega arith) A (w .ready .floats) k c y z)
+          ∙ ap (λ t. t .value) (alpha-other p b (g .mode) (g .floor) s i j a (omega arith) (omega arith) A (w .ready .floats) k c y z)
           ∙ w .weights k c
           ∙ ap (λ (t : State). x (sample t k)) (sym e))
 
@@ -147,10 +148,13 @@ module _ (g : Given) (m : List ℕ) (b : List Float) where
   abbrev pub Tells : (ℕ → Float) → Full → Type 0
   Tells x = Keeps g (Told p x)
 
+  rebuilt-tells : (x : ℕ → Float) (s : State) (a : ℕ) → a ≤ g .n → Told p x s → Told p x (over s (reconstructed p (repaired (g .mode)) a s))
+  rebuilt-tells x s a l w = told-rebuilt p x s a l w (repaired (g .mode))
+
   look-tells : (x : ℕ → Float) (v : Full) (c : Choice) → Tells x v → Tells x (lookBy g m v c)
   unfolding lookBy
   look-tells x v (Pair i j) k = k
-  look-tells x v Optimal k = rebuilt-keeps g m (Told p x) (told-rebuilt p x) (told-moved p x) v k
+  look-tells x v Optimal k = refreshed-keeps g m (Told p x) (rebuilt-tells x) (told-moved p x) v k
 
   -- what the steps that a pass adds leave
   pass-tells : (x : ℕ → Float) (w : Full) → Tells x w → Tells (λ q. lastLeft (stepsOf g m (passed g m b w) (pairFrom g m w)) q (x q)) (passed g m b w)
@@ -161,7 +165,7 @@ module _ (g : Given) (m : List ℕ) (b : List Float) where
       v = countedDown g m w
 
       told : Tells x v
-      told = counted-keeps g m (Told p x) (told-rebuilt p x) (told-moved p x) w k
+      told = counted-keeps g m (Told p x) (rebuilt-tells x) (told-moved p x) w k
 
       go : (c : Choice) → pairFrom g m w ≡ c → Tells (λ q. lastLeft (stepsOf g m (passed g m b w) c) q (x q)) (passed g m b w)
       go (Pair i j) e =
@@ -176,8 +180,8 @@ module _ (g : Given) (m : List ℕ) (b : List Float) where
       go Optimal e = elim (pass-ends g m b w e) [
         | inl z ↦ rw (z .1) (record { kept = told .kept; active = told .active })
         | inr z ↦
-            let t = rebuilt-keeps g m (Told p x) (told-rebuilt p x) (told-moved p x) v told in
-            record { kept = rw (z .state) (t .kept); active = rw (z .active) (told .active) }
+            let t = refreshed-keeps g m (Told p x) (rebuilt-tells x) (told-moved p x) v told in
+            record { kept = rw (z .state) (t .kept); active = rw (z .active) (t .active) }
       ]
 
   next-tells : (x : ℕ → Float) (go : Bool) (w : Full) → Tells x w → Tells (λ q. lastLeft (added g m b go w) q (x q)) (next g m b go w)
@@ -226,7 +230,7 @@ module _ (g : Given) (m : List ℕ) (b : List Float) where
   trained-tells budget s r h =
       let x = weightIn (g .n) (s .floats) in
       let y : ℕ → Float = λ q. lastLeft (traced g m b (startOf g m b s) budget) q (x q) in
-      closed-keeps g m (Told p y) (told-rebuilt p y) (told-moved p y) budget (runs g m b (startOf g m b s) budget)
+      closed-keeps g m (Told p y) (rebuilt-tells y) (told-moved p y) budget (runs g m b (startOf g m b s) budget)
       (runs-tell x (startOf g m b s) budget (record { kept = start-told s r h; active = omega arith }))
 
   -- the home reading of what is left: for each sample what the last step that chose it left, else the weight that was lent for it

@@ -1,5 +1,6 @@
 pub mod Within
 pub mod Rearranged
 pub mod Travel
+pub mod Ceilings
 pub mod Home
 pub mod Worked

@@ -77,7 +77,7 @@ module _ (p : Problem) where
   one-rearrangement l a s h r =
       walks (p .n) (λ t. Ready p t × Rearranged p s t) (moved (p .n))
       (λ t i j x y w. (ready-moved (w .0) i j x y, rearranged-moved s t i j x y (w .0) (w .1)))
-      (dropsAt (p .n) l) a h s a h (r, rearranged-none s) .kept .1
+      (l .ends) (dropsAt (p .n) l) a h s a h (r, rearranged-none s) .kept .1
 
   -- each sample still stands at one place
   pub perm-rearranged : (s t : State) → p .n ≤ length (t .numbers) → Rearranged p s t → Perm (p .n) (s .numbers) → Perm (p .n) (t .numbers)

@@ -19,9 +19,11 @@ use lib.Ieee.{Float, nan, binary64, mul, le}
 use lib.ListN.{getD}
 use Rattle.extreme.specs.declared.Choice.{Choice}
 use Rattle.extreme.specs.declared.Choice.the-variants.{Pair, Optimal}
+use Rattle.modes.specs.Modes.{repaired}
+use Rattle.modes.specs.declared.Mode.{Mode}
 use Rattle.reconstruct.specs.Reconstruct.{reconstructed}
 use Rattle.solver.specs.End.{trained}
-use Rattle.solver.specs.Pass.{ten, chosen, rebuilt, topsOf, restored, walkedFrom, shrunk, countedDown, passed, runs}
+use Rattle.solver.specs.Pass.{ten, chosen, rebuilt, refreshed, topsOf, restored, walkedFrom, shrunk, countedDown, passed, runs}
 use Rattle.solver.specs.Run.{problemOf, Full, withRun, counterAt, reopened, period}
 use Rattle.solver.specs.declared.Given.{Given}
 use Rattle.solver.proofs.Laws.{chosen-below}
@@ -30,8 +32,8 @@ use Rattle.state.specs.Lists.{Problem, State, Ready, over}
 use Rattle.state.specs.Moving.{moved}
 use Rattle.state.proofs.Kept.{ready-floats, ready-moved}
 use Rattle.trace.specs.Trace.{lookBy, lookAt, pairFrom, startOf}
-use Rattle.trace.proofs.Kept.{Keeps, rebuilt-keeps, counted-keeps, look-keeps, pair-keeps, runs-keeps, trained-keeps}
-use Rattle.trace.proofs.Passes.{look-run, pair-look, pass-steps, pass-ends}
+use Rattle.trace.proofs.Kept.{Keeps, rebuilt-keeps, refreshed-keeps, counted-keeps, look-keeps, pair-keeps, runs-keeps, trained-keeps}
+use Rattle.trace.proofs.Passes.{pair-look, pass-steps, pass-ends}
 use Rattle.trace.proofs.Rests.{same-started, same-reconstructed}
 use Rattle.update.specs.Update.{updated, updatedState}
 use Rattle.update.proofs.Left.{length-updated, behind}
@@ -58,18 +60,18 @@ module _ (p : Problem) (s : State) where
       let e = same-started p b s in
       record { numbers = refl; labels = refl; long = e .long; terms = λ k c. e .at (4 * p .n + k) (omega arith) (omega arith) }
 
-  pub reconstructed-stays : (a : ℕ) → a ≤ p .n → Stays (p .n) s (over s (reconstructed p a s))
-  reconstructed-stays a l =
-      let e = same-reconstructed p a l (5 * p .n) s in
+  pub reconstructed-stays : (x : Bool) (a : ℕ) → a ≤ p .n → Stays (p .n) s (over s (reconstructed p x a s))
+  reconstructed-stays x a l =
+      let e = same-reconstructed p x a l (5 * p .n) s in
       record { numbers = refl; labels = refl; long = e .long; terms = λ k c. e .at (4 * p .n + k) (omega arith) (omega arith) }
 
-  pub updated-stays : (b : List Float) (floor : Float) (i j a : ℕ) → i < a → j < a → a ≤ p .n → Ready p s → Stays (p .n) s (updatedState p b floor s i j a)
-  updated-stays b floor i j a x y l r =
+  pub updated-stays : (b : List Float) (mode : Mode) (floor : Float) (i j a : ℕ) → i < a → j < a → a ≤ p .n → Ready p s → Stays (p .n) s (updatedState p b mode floor s i j a)
+  updated-stays b mode floor i j a x y l r =
       record {
         numbers = refl;
         labels = refl;
-        long = length-updated p b floor s i j a;
-        terms = λ k c. behind p b floor s i j a (omega arith) (omega arith) l (r .floats) (4 * p .n + k) (omega arith);
+        long = length-updated p b mode floor s i j a;
+        terms = λ k c. behind p b mode floor s i j a (omega arith) (omega arith) l (r .floats) (4 * p .n + k) (omega arith);
       }
 
 -- ---- ready, and with each sample what is its own
@@ -125,11 +127,11 @@ module _ (g : Given) (m : List ℕ) (b : List Float) (labels : ℕ → ℕ) (ter
   abbrev S : State → Type 0
   S = Settled p labels terms
 
-  by-rebuilt : (s : State) (a : ℕ) → a ≤ g .n → S s → S (over s (reconstructed p a s))
-  by-rebuilt s a l = settled-stays p labels terms s (reconstructed p a s) (reconstructed-stays p s a l)
+  by-rebuilt : (s : State) (a : ℕ) → a ≤ g .n → S s → S (over s (reconstructed p (repaired (g .mode)) a s))
+  by-rebuilt s a l = settled-stays p labels terms s (reconstructed p (repaired (g .mode)) a s) (reconstructed-stays p s (repaired (g .mode)) a l)
 
-  by-updated : (s : State) (i j a : ℕ) → i < a → j < a → a ≤ g .n → (i ≡ j → ⊥) → S s → S (updatedState p b (g .floor) s i j a)
-  by-updated s i j a x y l d w = settled-stays p labels terms s (updated p b (g .floor) s i j a) (updated-stays p s b (g .floor) i j a x y l (w .ready)) w
+  by-updated : (s : State) (i j a : ℕ) → i < a → j < a → a ≤ g .n → (i ≡ j → ⊥) → S s → S (updatedState p b (g .mode) (g .floor) s i j a)
+  by-updated s i j a x y l d w = settled-stays p labels terms s (updated p b (g .mode) (g .floor) s i j a) (updated-stays p s b (g .mode) (g .floor) i j a x y l (w .ready)) w
 
   -- at each point of a run
   pub travelled-runs : (w : Full) (t : ℕ) → w .run .active ≤ g .n → Ready p (w .state) → Travelled (g .n) labels terms (w .state)
@@ -177,15 +179,19 @@ module _ (g : Given) (m : List ℕ) where
   abbrev pub ReadyRun : Full → Type 0
   ReadyRun = Keeps g (Ready q)
 
-  ready-rebuilt : (s : State) (a : ℕ) → a ≤ g .n → Ready q s → Ready q (over s (reconstructed q a s))
-  ready-rebuilt s a l r = ready-floats r (reconstructed q a s) (reconstructed-stays q s a l .long)
+  ready-rebuilt : (s : State) (a : ℕ) → a ≤ g .n → Ready q s → Ready q (over s (reconstructed q (repaired (g .mode)) a s))
+  ready-rebuilt s a l r = ready-floats r (reconstructed q (repaired (g .mode)) a s) (reconstructed-stays q s (repaired (g .mode)) a l .long)
 
   ready-move : (s : State) (i j : ℕ) → i < g .n → j < g .n → Ready q s → Ready q (moved (g .n) s i j)
   ready-move s i j a b r = ready-moved r i j a b
 
   rebuilt-stays : (w : Full) → ReadyRun w → Stays (g .n) (w .state) (rebuilt g m w .state)
   unfolding rebuilt
-  rebuilt-stays w k = reconstructed-stays q (w .state) (w .run .active) (k .active)
+  rebuilt-stays w k = reconstructed-stays q (w .state) (repaired (g .mode)) (w .run .active) (k .active)
+
+  refreshed-stays : (w : Full) → ReadyRun w → Stays (g .n) (w .state) (refreshed g m w .state)
+  unfolding refreshed
+  refreshed-stays w k = rebuilt-stays w k
 
   -- before the walk no sample moves, and the walk is one rearrangement
   pub record Shrinks (s t : State) : Type 0 where
@@ -234,7 +240,7 @@ module _ (g : Given) (m : List ℕ) where
   look-fit : (v : Full) (c : Choice) → ReadyRun v → Stays (g .n) (v .state) (lookBy g m v c .state) × Ready q (lookBy g m v c .state)
   unfolding lookBy
   look-fit v (Pair i j) k = (stays-none (g .n) (v .state), k .kept)
-  look-fit v Optimal k = (rebuilt-stays v k, rebuilt-keeps g m (Ready q) ready-rebuilt ready-move v k .kept)
+  look-fit v Optimal k = (refreshed-stays v k, refreshed-keeps g m (Ready q) ready-rebuilt ready-move v k .kept)
 
   -- looks, reconstruction and update
   pub pass-stays : (b : List Float) (w : Full) → ReadyRun w → Stays (g .n) (countedDown g m w .state) (passed g m b w .state)
@@ -248,11 +254,10 @@ module _ (g : Given) (m : List ℕ) where
           let u = lookAt g m v in
           let x = look-fit v (chosen g m v) (counted-fit w k) in
           let l = chosen-below g m u i j (pair-look g m w i j e) in
-          let few = counted-fit w k .active in
-          let same = ap (λ r. r .active) (look-run g m v (chosen g m v)) in
+          let few = look-keeps g m (Ready q) ready-rebuilt ready-move v (counted-fit w k) .active in
           rw (pass-steps g m b w i j e .state)
-          (stays-more (g .n) (v .state) (u .state) _ (x .0) (updated-stays q (u .state) b (g .floor) i j (u .run .active) (l .0) (l .1) (omega arith) (x .1)))
+          (stays-more (g .n) (v .state) (u .state) _ (x .0) (updated-stays q (u .state) b (g .mode) (g .floor) i j (u .run .active) (l .0) (l .1) (omega arith) (x .1)))
       go Optimal e = elim (pass-ends g m b w e) [
         | inl z ↦ rw (z .1) (stays-none (g .n) (v .state))
-        | inr z ↦ rw (z .state) (rebuilt-stays v (counted-fit w k))
+        | inr z ↦ rw (z .state) (refreshed-stays v (counted-fit w k))
       ]

@@ -12,6 +12,7 @@ use native.Mathlib.Omega.{arith}
 use lib.Ieee.{Float}
 use lib.ListN.{length, getD}
 use Rattle.kernel.specs.Row.{kernelIndex}
+use Rattle.modes.specs.Modes.{repaired}
 use Rattle.reconstruct.specs.Reconstruct.{reconstructed}
 use Rattle.readings.specs.Order.{NamesSamples}
 use Rattle.solver.specs.End.{trained}
@@ -65,11 +66,11 @@ module _ (g : Given) (m : List ℕ) (b : List Float) where
   abbrev p : Problem
   p = problemOf g m
 
-  by-rebuilt : (s : State) (a : ℕ) → a ≤ g .n → Numbered p s → Numbered p (over s (reconstructed p a s))
-  by-rebuilt s a l = numbered-floats p s (reconstructed p a s) (same-reconstructed p a l 0 s .long)
+  by-rebuilt : (s : State) (a : ℕ) → a ≤ g .n → Numbered p s → Numbered p (over s (reconstructed p (repaired (g .mode)) a s))
+  by-rebuilt s a l = numbered-floats p s (reconstructed p (repaired (g .mode)) a s) (same-reconstructed p (repaired (g .mode)) a l 0 s .long)
 
-  by-updated : (s : State) (i j a : ℕ) → i < a → j < a → a ≤ g .n → (i ≡ j → ⊥) → Numbered p s → Numbered p (updatedState p b (g .floor) s i j a)
-  by-updated s i j a x y l d = numbered-floats p s (updated p b (g .floor) s i j a) (length-updated p b (g .floor) s i j a)
+  by-updated : (s : State) (i j a : ℕ) → i < a → j < a → a ≤ g .n → (i ≡ j → ⊥) → Numbered p s → Numbered p (updatedState p b (g .mode) (g .floor) s i j a)
+  by-updated s i j a x y l d = numbered-floats p s (updated p b (g .mode) (g .floor) s i j a) (length-updated p b (g .mode) (g .floor) s i j a)
 
   -- at each point of a run
   pub runs-numbered : (w : Full) (t : ℕ) → w .run .active ≤ g .n → Numbered p (w .state) → Numbered p (runs g m b w t .state)

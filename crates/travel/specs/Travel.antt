@@ -6,7 +6,7 @@ use lib.Ieee.{Float, nan}
 use lib.ListN.{length, getD}
 use Rattle.kernel.specs.Row.{kernelIndex}
 use Rattle.readings.specs.Order.{Perm}
-use Rattle.state.specs.Fields.{gradient, gradientFixed, alpha, linear, sample}
+use Rattle.state.specs.Fields.{gradient, gradientFixed, alphaIn, alpha, linear, sample}
 use Rattle.state.specs.Lists.{Problem, State}
 
 -- each position's kernel index is its sample number
@@ -24,6 +24,10 @@ pub record Travelled (n : ℕ) (labels : ℕ → ℕ) (terms : ℕ → Float) (s
   pub paired : Paired n (s .numbers)
   pub label : (k : ℕ) → k < n → getD (s .labels) k 0 ≡ labels (sample s k)
   pub term : (k : ℕ) → k < n → getD (s .floats) (4 * n + k) nan ≡ terms (sample s k)
+
+-- and where ceilings travel, with its own ceiling
+abbrev pub OwnCeilings : ℕ → (ℕ → Float) → State → Type 0
+OwnCeilings n ceilings s = (k : ℕ) → k < n → alphaIn n (s .floats) k .upper ≡ ceilings (sample s k)
 
 -- t is s with its n positions in another order: position k of t holds all that position `from k` of s held
 pub record Rearranged (p : Problem) (s t : State) : Type 0 where

@@ -1,12 +1,13 @@
 -- What a trial answers.
 use Prim.Native.Nat.{ℕ, _+_, _*_}
-use mathlib.Core.Bool.{Bool, not, cond}
+use mathlib.Core.Bool.{Bool, false, not, cond}
 use mathlib.Core.List.{List}
 use lib.Dec.{eqb, ltb}
 use lib.Ieee.{Float}
 use lib.ListN.{set}
 use Rattle.alpha.specs.Weight as Weight
 use Rattle.kernel.specs.declared.Kind.the-variants.{TwoClass}
+use Rattle.modes.specs.declared.Mode.the-variants.{Crate}
 use Rattle.rho.specs.Rho.{levelBy}
 use Rattle.rho.specs.declared.Level.{Level}
 use Rattle.solver.specs.End.{objectiveOf}
@@ -26,6 +27,7 @@ trialGiven n nu shrinking eps = record {
   n = n;
   side = n;
   kind = TwoClass;
+  mode = Crate;
   floor = Weight.floor;
   eps = eps;
   shrinking = not (eqb shrinking 0);
@@ -41,4 +43,4 @@ putOf o l obj = set (set (set o 0 (l .rho)) 1 (l .r)) 2 obj
 
 -- out after a run that left w
 unfoldable pub outOf : Bool → ℕ → List Float → Full → List Float
-outOf nu n o w = putOf o (levelBy nu n (w .state .floats) (w .state .labels) (w .run .active)) (objectiveOf n (w .state .floats))
+outOf nu n o w = putOf o (levelBy nu false n (w .state .floats) (w .state .labels) (w .run .active)) (objectiveOf n (w .state .floats))

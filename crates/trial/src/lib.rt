@@ -11,6 +11,7 @@ ghost use Rattle.state.specs.Lists.{State, state, Ready};
 ghost use Rattle.trial.specs.Trial.{codeOf, trialGiven, codedOf, putOf, outOf};
 use alpha::Alpha;
 use kernel::Kind;
+use modes::Mode;
 use rho::Level;
 use solver::Given;
 use solver::Run;
@@ -74,6 +75,7 @@ pub extern "C" fn trial_run(
         n,
         side: n,
         kind: Kind::TwoClass,
+        mode: Mode::Crate,
         floor: Alpha::CURVATURE_FLOOR,
         eps,
         shrinking: shrinking != 0,
@@ -81,7 +83,7 @@ pub extern "C" fn trial_run(
     };
     let r = solver::train(f, u, y, m, b, g, budget);
     let active = r.active;
-    let l = rho::level_by(f, y, n, active, nu != 0);
+    let l = rho::level_by(f, y, n, active, nu != 0, false);
     put(out, l, solver::objective(f, n));
     coded(r)
 }

@@ -5,13 +5,13 @@ ghost use lib.Ieee.{nan};
 ghost use lib.ListN.{length, getD};
 ghost use Rattle.alpha.specs.Weight.{weight};
 ghost use Rattle.kernel.specs.Row.{kernelIndex, Indexed};
-ghost use Rattle.state.specs.Fields.{bound};
 ghost use Rattle.state.specs.Lists.{problem, state, Ready};
 ghost use Rattle.update.specs.Pair.{holding, floored, stepOf, iCapped, jCapped, iRaised, jRaised};
 ghost use Rattle.update.specs.Pair.{differLow, differHigh, differed, agreeFirst, agreeSecond, agreed, pairOf};
-ghost use Rattle.update.specs.Update.{pairAt, shiftedTo, turnSigned, settled, carried, updated};
+ghost use Rattle.update.specs.Update.{ceilingIn, countedUpper, jReach, pairAt, shiftedTo, turnSigned, settled, carried, updated};
 use alpha::Alpha;
 use kernel::Kind;
+use modes::Mode;
 
 pub struct Pair {
     pub i: Alpha,
@@ -169,12 +169,43 @@ pub fn clipped_pair(
     }
 }
 
-// The weight of position k under the ceiling of its place.
-fn placed(f: &[f64], b: &[f64], n: usize, k: usize) -> Alpha
+// The ceiling of position k in a step: that of its place, or where ceilings travel its own.
+fn ceiling_at(f: &[f64], b: &[f64], n: usize, mode: Mode, k: usize) -> f64
     requires { ⌜ (k < n) × (n ≤ 512) × (7 * n ≤ length (now f)) × (n ≤ length (now b)) ⌝ }
-    ensures { λ r. ⌜ r ≡ weight (getD (now (f .entry)) (2 * n + k) nan) (bound (now (b .entry)) k) ⌝ }
+    ensures { λ r. ⌜ r ≡ ceilingIn n mode (now (b .entry)) (now (f .entry)) k ⌝ }
 {
-    Alpha::from(f[2 * n + k], b[k])
+    if modes::travels(mode) {
+        f[3 * n + k]
+    } else {
+        b[k]
+    }
+}
+
+// Whether a position with the record w, which takes the value x, counted as at upper.
+fn counted_upper(mode: Mode, w: Alpha, x: f64) -> bool
+    ensures { λ r. ⌜ r ≡ countedUpper mode w x ⌝ }
+{
+    if modes::repaired(mode) {
+        w.reached_upper()
+    } else {
+        Alpha::from(x, w.upper).reached_upper()
+    }
+}
+
+// How many fixed gradients a turn of j reaches.
+fn reach(mode: Mode, n: usize, active: usize) -> usize
+    requires { ⌜ active ≤ n ⌝ }
+    ensures { λ r. ⌜ (r ≡ jReach mode n active) × (r ≤ n) ⌝ }
+{
+    if modes::repaired(mode) { n } else { active }
+}
+
+// The weight of position k under its ceiling in a step.
+fn placed(f: &[f64], b: &[f64], n: usize, mode: Mode, k: usize) -> Alpha
+    requires { ⌜ (k < n) × (n ≤ 512) × (7 * n ≤ length (now f)) × (n ≤ length (now b)) ⌝ }
+    ensures { λ r. ⌜ r ≡ weight (getD (now (f .entry)) (2 * n + k) nan) (ceilingIn n mode (now (b .entry)) (now (f .entry)) k) ⌝ }
+{
+    Alpha::from(f[2 * n + k], ceiling_at(f, b, n, mode, k))
 }
 
 fn diagonal_at(f: &[f64], u: &[u64], side: usize, n: usize, k: usize) -> f64
@@ -184,7 +215,7 @@ fn diagonal_at(f: &[f64], u: &[u64], side: usize, n: usize, k: usize) -> f64
     f[5 * n + kernel::index_at(u, side, n, k)]
 }
 
-// The clipped pair of positions i and j, under the ceilings of their places.
+// The clipped pair of positions i and j.
 fn pair_at(
     f: &[f64],
     u: &[u64],
@@ -196,13 +227,14 @@ fn pair_at(
     kind: Kind,
     i: usize,
     j: usize,
+    mode: Mode,
     floor: f64,
 ) -> Pair
     requires { ⌜ (Ready (problem n side kind (now m)) (state (now f) (now u) (now y))) × (n ≤ length (now b)) × (i < n) × (j < n) ⌝ }
-    ensures { λ r. ⌜ r ≡ pairAt (problem n side kind (now (m .entry))) (now (b .entry)) floor (state (now (f .entry)) (now (u .entry)) (now (y .entry))) i j ⌝ }
+    ensures { λ r. ⌜ r ≡ pairAt (problem n side kind (now (m .entry))) (now (b .entry)) mode floor (state (now (f .entry)) (now (u .entry)) (now (y .entry))) i j ⌝ }
 {
-    let wi = placed(f, b, n, i);
-    let wj = placed(f, b, n, j);
+    let wi = placed(f, b, n, mode, i);
+    let wj = placed(f, b, n, mode, j);
     let di = diagonal_at(f, u, side, n, i);
     let dj = diagonal_at(f, u, side, n, j);
     let r = kernel::distance(kind, m, side, u, n, y, i, j);
@@ -244,7 +276,7 @@ fn signed(up: bool, x: f64) -> f64
     if up { -x } else { x }
 }
 
-// Position k takes the value x and the ceiling of its place. Where that turns whether it is at upper, the fixed gradient is told.
+// Position k takes the value x and its ceiling. Where that turns whether it is at upper, the fixed gradient is told.
 fn settle(
     f: &mut [f64],
     u: &[u64],
@@ -254,15 +286,16 @@ fn settle(
     n: usize,
     side: usize,
     kind: Kind,
+    mode: Mode,
     k: usize,
     x: f64,
     count: usize,
 )
     requires { ⌜ (Ready (problem n side kind (now m)) (state (now f) (now u) (now y))) × (n ≤ length (now b)) × (k < n) × (count ≤ n) ⌝ }
-    ensures { λ _. ⌜ now (f .exit) ≡ settled (problem n side kind (now (m .entry))) (now (b .entry)) (state (now (f .entry)) (now (u .entry)) (now (y .entry))) k x count ⌝ }
+    ensures { λ _. ⌜ now (f .exit) ≡ settled (problem n side kind (now (m .entry))) (now (b .entry)) mode (state (now (f .entry)) (now (u .entry)) (now (y .entry))) k x count ⌝ }
 {
-    let was = Alpha::from(x, f[3 * n + k]).reached_upper();
-    let w = Alpha::from(x, b[k]);
+    let was = counted_upper(mode, state::alpha_at(f, n, k), x);
+    let w = Alpha::from(x, ceiling_at(f, b, n, mode, k));
     f[2 * n + k] = w.value;
     f[3 * n + k] = w.upper;
     if was == w.reached_upper() {
@@ -284,16 +317,30 @@ fn carry(
     active: usize,
     i: usize,
     j: usize,
+    mode: Mode,
     q: Pair,
 )
     requires { ⌜ (Ready (problem n side kind (now m)) (state (now f) (now u) (now y))) × (n ≤ length (now b)) × (active ≤ n) × (i < n) × (j < n) ⌝ }
-    ensures { λ _. ⌜ now (f .exit) ≡ carried (problem n side kind (now (m .entry))) (now (b .entry)) (state (now (f .entry)) (now (u .entry)) (now (y .entry))) i j q active ⌝ }
+    ensures { λ _. ⌜ now (f .exit) ≡ carried (problem n side kind (now (m .entry))) (now (b .entry)) mode (state (now (f .entry)) (now (u .entry)) (now (y .entry))) i j q active ⌝ }
 {
     let xi = q.i.value - f[2 * n + i];
     let xj = q.j.value - f[2 * n + j];
     shift(f, u, y, m, n, side, kind, i, j, xi, xj, active);
-    settle(f, u, y, m, b, n, side, kind, i, q.i.value, n);
-    settle(f, u, y, m, b, n, side, kind, j, q.j.value, active);
+    settle(f, u, y, m, b, n, side, kind, mode, i, q.i.value, n);
+    settle(
+        f,
+        u,
+        y,
+        m,
+        b,
+        n,
+        side,
+        kind,
+        mode,
+        j,
+        q.j.value,
+        reach(mode, n, active),
+    );
 }
 
 // One step on positions i and j, with the first active positions' gradients; b has the ceilings by place.
@@ -309,11 +356,12 @@ pub fn update(
     active: usize,
     i: usize,
     j: usize,
+    mode: Mode,
     floor: f64,
 )
     requires { ⌜ (Ready (problem n side kind (now m)) (state (now f) (now u) (now y))) × (n ≤ length (now b)) × (active ≤ n) × (i < n) × (j < n) ⌝ }
-    ensures { λ _. ⌜ now (f .exit) ≡ updated (problem n side kind (now (m .entry))) (now (b .entry)) floor (state (now (f .entry)) (now (u .entry)) (now (y .entry))) i j active ⌝ }
+    ensures { λ _. ⌜ now (f .exit) ≡ updated (problem n side kind (now (m .entry))) (now (b .entry)) mode floor (state (now (f .entry)) (now (u .entry)) (now (y .entry))) i j active ⌝ }
 {
-    let q = pair_at(f, u, y, m, b, n, side, kind, i, j, floor);
-    carry(f, u, y, m, b, n, side, kind, active, i, j, q);
+    let q = pair_at(f, u, y, m, b, n, side, kind, i, j, mode, floor);
+    carry(f, u, y, m, b, n, side, kind, active, i, j, mode, q);
 }

@@ -56,9 +56,9 @@ impl Room {
     }
 }
 
-/// What travels as a tuning, as its words.
-fn tuning(o: &Tuned) -> [f64; 1] {
-    [o.floor]
+/// The words of a tuning.
+fn tuning(o: &Tuned) -> [u64; 2] {
+    [o.floor.to_bits(), u64::from(o.travelling)]
 }
 
 /// The length in bytes of a list of doubles, or of numbers. No list is so long that this wraps.
@@ -83,9 +83,11 @@ pub(crate) fn general(g: &General, o: &Tuned, room: &mut Room) -> u64 {
     }
 }
 
+/// The library knows a floor here, and no more. So the second word is lent only where it is on: then it is refused, not dropped.
 #[rustfmt::skip]
 pub(crate) fn retired(g: &General, r: &[bool], o: &Tuned, room: &mut Room) -> u64 {
     let (m, l, t) = (g.problem.matrix, g.problem.labels, tuning(o));
+    let t = &t[..1 + usize::from(o.travelling)];
     let (lc, lh) = (bytes(&room.crate_reading), bytes(&room.home));
     let (c, h, a) = (&mut room.crate_reading, &mut room.home, &mut room.answer);
     unsafe {
@@ -93,7 +95,7 @@ pub(crate) fn retired(g: &General, r: &[bool], o: &Tuned, room: &mut Room) -> u6
             g.ceilings.as_ptr().cast(), bytes(g.ceilings), g.alphas.as_ptr().cast(), bytes(g.alphas),
             g.linear.as_ptr().cast(), bytes(g.linear), r.as_ptr().cast(), r.len(),
             u8::from(g.nu_rule), o.options.eps.to_bits(), u8::from(o.options.shrinking), o.options.budget,
-            t.as_ptr().cast(), bytes(&t), c.as_mut_ptr().cast(), lc, h.as_mut_ptr().cast(), lh, a.as_mut_ptr(), ANSWER)
+            t.as_ptr().cast(), bytes(t), c.as_mut_ptr().cast(), lc, h.as_mut_ptr().cast(), lh, a.as_mut_ptr(), ANSWER)
     }
 }
 
@@ -232,7 +234,12 @@ mod tests {
         };
         let floor = f64::from_le_bytes(shown("tuning").try_into().unwrap());
         assert_eq!((options.eps, floor), (0.001, 1e-12));
-        let options = Tuned { options, floor };
+        let travelling = false;
+        let options = Tuned {
+            options,
+            floor,
+            travelling,
+        };
         let mut matrix = [1.0, 0.0, 0.0, 1.0];
         assert_eq!(shown("matrix"), bytes_of(&matrix));
         assert_eq!(shown("labels"), labels.map(u8::from));
@@ -258,6 +265,32 @@ mod tests {
             (left.crate_reading, left.home),
             (vec![7.0; 2], vec![7.0; 2])
         );
+    }
+
+    /// The call of docs/BYTES.md with both words, with such a tuning and shrinking on or off: what stands in both lists.
+    #[rustfmt::skip]
+    fn raw_tuned(tuning: &[u8], shrinking: u8) -> Vec<u8> {
+        let (m, l) = (shown("matrix of 4"), shown("labels of 4"));
+        let (mut c, mut h, mut a) = ([7; 32], [7; 32], [7; ANSWER]);
+        let result = unsafe {
+            altuliscia_c_tuned(4, m.as_ptr(), m.len(), l.as_ptr(), l.len(), 1.0_f64.to_bits(), 2.0_f64.to_bits(), 0.001_f64.to_bits(),
+                shrinking, 100, tuning.as_ptr(), tuning.len(), c.as_mut_ptr(), 32, h.as_mut_ptr(), 32, a.as_mut_ptr(), ANSWER)
+        };
+        assert_eq!((result, c), (0, h));
+        h.to_vec()
+    }
+
+    #[test]
+    fn both_words_are_what_the_document_shows() {
+        let words = shown("both words");
+        let floor = f64::from_le_bytes(words[..8].try_into().unwrap());
+        assert_eq!((words.len(), floor), (16, USUAL_FLOOR));
+        let off = [&words[..8], &[0; 8]].concat();
+        assert_eq!(raw_tuned(&words, 1), shown("travelled"));
+        for tuning in [&off, &words[..8], &[]] {
+            assert_eq!(raw_tuned(tuning, 1), shown("by place"));
+        }
+        assert_eq!(raw_tuned(&words, 0), raw_tuned(&off, 0));
     }
 
     /// A raw call of two samples with any retired bytes, any tuning, shrinking and a budget. Hands back the result, and number and index

@@ -1,6 +1,6 @@
-//! The C functions, as include/altuliscia.h has them. oracle/compare takes this file in, too.
+//! The C functions, as include/altuliscia.h has them. oracle/compare, host/captions and a test take this file in, too.
 
-// Neither calls all of them.
+// None calls all of them.
 #[allow(dead_code)]
 #[rustfmt::skip]
 extern "C" {

@@ -71,6 +71,24 @@
 //! # Ok::<(), altuliscia::Refusal>(())
 //! ```
 //!
+//! # Ceilings that travel
+//!
+//! Shrinking moves samples, and as in `linfa-svm` a step then clips a weight by the ceiling of the place where its sample stands. With
+//! [`Tuned::travelling`] it is the sample's own. That matters where shrinking is on and the ceilings differ; here the last sample's is 1:
+//!
+//! ```
+//! use altuliscia::{Options, Problem, Training, Tuned};
+//!
+//! let matrix = [11, 0, -3, -1, 0, 11, 1, 7, -3, 1, 2, 1, -1, 7, 1, 6].map(f64::from);
+//! let problem = Problem { matrix: &matrix, labels: &[false, false, false, true] };
+//! let training = Training::C { problem, cpos: 1.0, cneg: 2.0 };
+//! let mut tuned = Tuned::from(Options { shrinking: true, ..Options::default() });
+//! assert_eq!(training.fit_tuned(&tuned)?.home[3], 1.146617692072237);
+//! tuned.travelling = true;
+//! assert_eq!(training.fit_tuned(&tuned)?.home[3], 1.0);
+//! # Ok::<(), altuliscia::Refusal>(())
+//! ```
+//!
 //! # Several languages
 //!
 //! For two to twelve languages there is a training for each two of them. A [`Sorter`] trains them all, and tells which language a caption is
@@ -180,6 +198,10 @@ pub struct Tuned {
     /// it is [`Refusal::Floor`]. [`USUAL_FLOOR`] at first. A smaller one takes longer steps along flat directions. There is a [`trail`] of
     /// the usual one only.
     pub floor: f64,
+    /// Whether a sample keeps its own ceiling when shrinking moves it. False at first, as in `linfa-svm`, where a step clips by the ceiling of the
+    /// place. With one common ceiling, as nu and one class have, and with shrinking off, the answer and the refusal are the same either way.
+    /// Where samples may be retired it is [`Refusal::Length`]: shrinking is off there, so nothing moves.
+    pub travelling: bool,
 }
 
 impl From<Options> for Tuned {
@@ -187,6 +209,7 @@ impl From<Options> for Tuned {
         Tuned {
             options,
             floor: USUAL_FLOOR,
+            travelling: false,
         }
     }
 }
@@ -224,7 +247,8 @@ pub struct Answer {
     /// How many places of `home` are above [`SUPPORT_LIMIT`] in magnitude; neither a NaN nor a zero is. A weight that isn't counted and
     /// isn't 0 still has its say in a decision.
     pub support: u64,
-    /// What `linfa-svm` answers, or would with this floor for its 1e-10: place i has the weight at position order\[i\].
+    /// What `linfa-svm` answers, or would with this floor for its 1e-10 and, travelling, with bounds that move along: place i has the weight
+    /// at position order\[i\].
     pub crate_reading: Vec<f64>,
     /// Each sample's own weight, its dual coefficient. The head of this page says how it is used.
     pub home: Vec<f64>,

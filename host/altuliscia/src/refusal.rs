@@ -117,7 +117,7 @@ impl Refusal {
     pub fn sentence(&self) -> &'static str {
         match self {
             Refusal::Samples => "The number of samples is 0 or above 512: lend 1 to 512 samples.",
-            Refusal::Length => "A list has the wrong length: lend a matrix of 8*n*n bytes, n labels, n retired bytes, 8n bytes for each list of doubles, a tuning of 0 or 8 bytes, at least 8n bytes for each result list and at least 72 for the answer, under the tuned functions 128.",
+            Refusal::Length => "A list has the wrong length: lend a matrix of 8*n*n bytes, n labels, n retired bytes, 8n bytes for each list of doubles, a tuning of 0, 8 or 16 bytes, of 0 or 8 where samples may be retired, at least 8n bytes for each result list and at least 72 for the answer, under the tuned functions 128.",
             Refusal::Kernel { .. } => "A kernel entry is NaN, infinite or above 2^1000 in magnitude: the index is column*n + row; scale the kernel down or mend that entry.",
             Refusal::Label { .. } => "A label is neither 0 nor 1: the index is its sample; write 1 for positive, 0 for negative.",
             Refusal::Ceiling { .. } => "A ceiling is NaN, not above 0 or above 2^1000: the index is its sample, in the C entry 0 for cpos and 1 for cneg; give a ceiling above 0 and not above 2^1000.",

@@ -1,6 +1,9 @@
 //! The problems of docs/DIFFERENCES.md, as they are written there.
 use altuliscia::*;
 
+#[path = "../src/functions.rs"]
+mod functions;
+
 /// eps 0, a budget of 100.
 fn options(shrinking: bool) -> Options {
     Options {
@@ -14,45 +17,123 @@ fn labels(bytes: &[u8]) -> Vec<bool> {
     bytes.iter().map(|&byte| byte == 1).collect()
 }
 
-/// The general problem of four samples, with these ceilings.
-fn four(
-    matrix: [i8; 16],
-    label: [u8; 4],
-    ceilings: [f64; 4],
-    alphas: [f64; 4],
-    linear: [f64; 4],
-) -> Answer {
-    let general = General {
-        problem: Problem {
-            matrix: &matrix.map(f64::from),
-            labels: &labels(&label),
-        },
-        ceilings: &ceilings,
-        alphas: &alphas,
-        linear: &linear,
-        nu_rule: false,
-    };
-    fit_general(&general, &options(true)).unwrap()
+/// A general problem with these ceilings, by each way to train it.
+struct Ceilings<'a> {
+    matrix: &'a [f64],
+    labels: &'a [u8],
+    ceilings: &'a [f64],
+    alphas: &'a [f64],
+    linear: &'a [f64],
+}
+
+impl Ceilings<'_> {
+    /// Iterations and weights in the crate's mode.
+    fn crates(&self, shrinking: bool) -> (u64, Vec<f64>) {
+        let general = General {
+            problem: Problem {
+                matrix: self.matrix,
+                labels: &labels(self.labels),
+            },
+            ceilings: self.ceilings,
+            alphas: self.alphas,
+            linear: self.linear,
+            nu_rule: false,
+        };
+        let answer = fit_general(&general, &options(shrinking)).unwrap();
+        (answer.iterations, answer.home)
+    }
+
+    /// The same in the travelling mode, by the C function itself.
+    fn travelling(&self, shrinking: bool) -> (u64, Vec<f64>) {
+        let n = self.labels.len();
+        let lists = [self.matrix, self.ceilings, self.alphas, self.linear].map(bytes);
+        let [m, c, a, l] = &lists;
+        let tuning = [1e-10_f64.to_bits(), 1].map(u64::to_le_bytes).concat();
+        let mut written = [vec![0; 8 * n], vec![0; 8 * n], vec![0; 128]];
+        let [crate_reading, home, answer] = &mut written;
+        // each pointer has its length beside it
+        #[rustfmt::skip]
+        let refused = unsafe {
+            functions::altuliscia_general_tuned(n, m.as_ptr(), m.len(), self.labels.as_ptr(), n, c.as_ptr(), c.len(),
+                a.as_ptr(), a.len(), l.as_ptr(), l.len(), 0, 0, u8::from(shrinking), 100, tuning.as_ptr(), tuning.len(),
+                crate_reading.as_mut_ptr(), 8 * n, home.as_mut_ptr(), 8 * n, answer.as_mut_ptr(), 128)
+        };
+        assert_eq!(refused, 0);
+        (
+            word(answer, 6),
+            (0..n).map(|k| f64::from_bits(word(home, k))).collect(),
+        )
+    }
+}
+
+fn bytes(list: &[f64]) -> Vec<u8> {
+    list.iter()
+        .flat_map(|x| x.to_bits().to_le_bytes())
+        .collect()
+}
+
+fn word(bytes: &[u8], k: usize) -> u64 {
+    u64::from_le_bytes(bytes[8 * k..8 * k + 8].try_into().unwrap())
 }
 
 #[test]
+fn a_moved_sample_takes_the_ceiling_of_its_place_unless_it_travels() {
+    let moved = Ceilings {
+        matrix: &[4, 0, 0, -1, 0, 2, 2, 1, 0, 2, 4, 0, -1, 1, 0, 3].map(f64::from),
+        labels: &[1, 0, 0, 0],
+        ceilings: &[1.0, 2.0, 2.0, 2.0],
+        alphas: &[0.0, 2.0, 0.0, 2.0],
+        linear: &[2.0, 1.0, 1.0, -1.0],
+    };
+    let (left, small) = (2.020408163265306, 0.979591836734694);
+    assert_eq!(moved.crates(true), (5, vec![0.0, left, small, 1.0]));
+    let own = 1.020408163265306;
+    assert_eq!(moved.travelling(true), (5, vec![0.0, own, small, 2.0]));
+    assert_eq!(moved.travelling(false), moved.crates(false));
+}
+
+/// Without a move both modes round alike, and a weight ends above its ceiling.
+#[test]
 fn unequal_ceilings_have_no_box() {
-    let moved = four(
-        [4, 0, 0, -1, 0, 2, 2, 1, 0, 2, 4, 0, -1, 1, 0, 3],
-        [1, 0, 0, 0],
-        [1.0, 2.0, 2.0, 2.0],
-        [0.0, 2.0, 0.0, 2.0],
-        [2.0, 1.0, 1.0, -1.0],
-    );
-    assert_eq!((moved.iterations, moved.home[1]), (5, 2.020408163265306));
-    let still = four(
-        [3, 2, 0, 1, 2, 2, 2, 1, 0, 2, 2, 2, 1, 1, 2, 1],
-        [0, 1, 1, 1],
-        [2.0, 1.0, 1.0, 1.0],
-        [2.0, 0.0, 1.0, 0.0],
-        [-2.0, 0.0, -2.0, 0.0],
-    );
-    assert_eq!((still.iterations, still.home[1]), (3, 1.0000000000000002));
+    let still = Ceilings {
+        matrix: &[3, 2, 0, 1, 2, 2, 2, 1, 0, 2, 2, 2, 1, 1, 2, 1].map(f64::from),
+        labels: &[0, 1, 1, 1],
+        ceilings: &[2.0, 1.0, 1.0, 1.0],
+        alphas: &[2.0, 0.0, 1.0, 0.0],
+        linear: &[-2.0, 0.0, -2.0, 0.0],
+    };
+    let above = (3, vec![2.0, 1.0000000000000002, 0.0, 0.0]);
+    for shrinking in [false, true] {
+        assert_eq!(still.crates(shrinking), above);
+        assert_eq!(still.travelling(shrinking), above);
+    }
+    // the problem of the C entry with cpos 1 and cneg 2
+    let classes = Ceilings {
+        matrix: &[3, -4, -2, 3, -4, 1, 2, -2, -2, 2, 1, -4, 3, -2, -4, 1].map(f64::from),
+        labels: &[1, 1, 1, 0],
+        ceilings: &[1.0, 1.0, 1.0, 2.0],
+        alphas: &[0.0; 4],
+        linear: &[-1.0; 4],
+    };
+    let above = (4, vec![1.0, 1.0000000000000002, 0.0, 2.0]);
+    assert_eq!(classes.crates(true), above);
+    assert_eq!(classes.travelling(true), above);
+}
+
+#[test]
+fn ceilings_far_apart_have_none_by_far() {
+    let large = 2f64.powi(53);
+    let apart = Ceilings {
+        matrix: &[1.0, 0.0, 0.0, 0.0],
+        labels: &[1, 0],
+        ceilings: &[0.6, large],
+        alphas: &[0.0, large - 1.0],
+        linear: &[-1.0; 2],
+    };
+    for shrinking in [false, true] {
+        assert_eq!(apart.crates(shrinking), (1, vec![2.0, large]));
+        assert_eq!(apart.travelling(shrinking), (1, vec![2.0, large]));
+    }
 }
 
 #[test]

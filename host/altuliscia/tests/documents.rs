@@ -51,9 +51,10 @@ fn the_readme_shows_the_sources() {
     }
     let told = include_str!("../../problems/eight.expected");
     let readme = include_str!("../../../README.md");
-    let mut lines = readme.lines().filter(|l| l.contains("linfa-svm says"));
-    assert!(lines.clone().count() == 3);
-    assert!(lines.all(|l| told.contains(l.trim())));
+    let lines = readme.lines().map(str::trim);
+    let lines = lines.skip_while(|l| !l.ends_with("linfa-svm says"));
+    let rows: Vec<&str> = lines.take_while(|l| !l.is_empty()).collect();
+    assert!(rows.len() == 4 && rows.iter().all(|l| told.contains(l)));
     let run = include_str!("../../../captions/cs-sk.expected");
     let indented: Vec<String> = run.lines().map(|l| format!("    {}", l)).collect();
     let shown: Vec<&str> = indented.iter().map(|l| l.trim_end()).collect();

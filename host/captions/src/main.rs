@@ -1,5 +1,6 @@
 //! Trains on captions and says how the held-out ones are sorted. HELP has the commands.
 mod bars;
+mod ceilings;
 mod confusions;
 mod languages;
 mod outcomes;
@@ -23,6 +24,7 @@ captions picture FILE [TEXTS]
                             training captions, a line each
 captions retired FILE SERIAL ..
                             trains with all captions, then with those of these serial numbers retired, and compares
+captions ceilings FILE ..    trainings with another ceiling for each language, in both modes: docs/CEILINGS.md
 captions bars PAGE          the times of docs/BENCHMARKS-x86-64.md as an SVG picture
 captions libsvm FILE NAME   writes them as NAME.train and NAME.held, in LIBSVM's format for a precomputed kernel
 
@@ -52,6 +54,10 @@ fn main() -> ExitCode {
         }
         ["retired", path, ref serials @ ..] if !serials.is_empty() => {
             read(path).and_then(|figures| retired::retired(&figures, serials))
+        }
+        ["ceilings", ref paths @ ..] if !paths.is_empty() => {
+            let all: Result<Vec<Figures>, String> = paths.iter().map(|path| read(path)).collect();
+            all.and_then(|all| ceilings::page(&all))
         }
         ["libsvm", path, name, ref n @ ..] if n.len() < 2 => libsvm(path, name, n.first()),
         ["twelve", path] => twelve(path).map(|found| found.told()),
@@ -263,6 +269,8 @@ mod tests {
     #[test]
     fn nothing_to_sort_is_told() {
         let told = pair(&figures("held 0\n")).unwrap_err();
+        assert_eq!(told, "there is no held-out caption to sort");
+        let told = ceilings::page(&[figures("held 0\n")]).unwrap_err();
         assert_eq!(told, "there is no held-out caption to sort");
     }
 

@@ -51,6 +51,8 @@ pub struct Settings {
     pub pair: Option<[i32; 2]>,
     pub budget: u64,
     pub floor: f64,
+    /// Whether a sample keeps its own ceiling when shrinking moves it.
+    pub travelling: bool,
     pub quiet: bool,
     /// Whether the file may have lines for some of the serial numbers only.
     pub part: bool,
@@ -83,6 +85,7 @@ impl Settings {
         pair: None,
         budget: MOST_PASSES,
         floor: USUAL_FLOOR,
+        travelling: false,
         quiet: false,
         part: false,
         anyway: false,
@@ -103,6 +106,11 @@ impl Settings {
         let costs = samples.classes.iter().map(|c| self.cost_of(*c));
         let rest = std::iter::repeat(self.cost);
         Ok(costs.chain(rest).take(count).collect())
+    }
+
+    /// Whether linfa-svm trains so, too: it has one floor, and its ceilings don't travel.
+    pub fn as_linfa_svm(&self) -> bool {
+        self.floor == USUAL_FLOOR && !self.travelling
     }
 
     /// The cost of a label.
@@ -325,10 +333,13 @@ fn joined<'a>(word: &'a str, valued: &impl Fn(&str) -> bool) -> (&'a str, Option
 pub fn settings(options: &str) -> Result<Settings, Trouble> {
     let words: Vec<String> = options.split(' ').map(str::to_string).collect();
     let none = |name: &str| format!("there is no option '{}'", name);
-    let parted = Parted::of(&words, &[], has_value, none)?;
+    let parted = Parted::of(&words, &["--travelling"], has_value, none)?;
     let mut settings = Settings::USUAL;
     for (name, value) in &parted.options {
-        set(&mut settings, name, value.as_deref().unwrap_or_default())?;
+        match value {
+            Some(value) => set(&mut settings, name, value)?,
+            None => settings.travelling = true,
+        }
     }
     match parted.files.first() {
         Some(file) => usage(format!("'{}' is no option", file)),
@@ -337,7 +348,14 @@ pub fn settings(options: &str) -> Result<Settings, Trouble> {
 }
 
 /// The flags of what trains.
-const FLAGS: [&str; 5] = ["-q", "--part", "--write-anyway", "--csv", "--json"];
+const FLAGS: [&str; 6] = [
+    "-q",
+    "--part",
+    "--write-anyway",
+    "--travelling",
+    "--csv",
+    "--json",
+];
 
 fn call(command: Command, words: &[String]) -> Result<Words, Trouble> {
     let none = |name: &str| format!("there is no option '{}'", name);
@@ -350,6 +368,7 @@ fn call(command: Command, words: &[String]) -> Result<Words, Trouble> {
                 "-q" => settings.quiet = true,
                 "--part" => settings.part = true,
                 "--write-anyway" => settings.anyway = true,
+                "--travelling" => settings.travelling = true,
                 _ => settings.form = parted.form()?,
             },
         }
@@ -437,6 +456,9 @@ fn fits_together(command: Command, s: &Settings) -> Result<(), Trouble> {
     if s.retired.is_some() && s.fit != Fit::C {
         return usage("--retired: only -s 0 trains with retired samples".to_string());
     }
+    if s.travelling {
+        travels(trail, s)?;
+    }
     match (trail, &s.sample) {
         (true, None) => usage("--sample, the serial number to follow, is missing".to_string()),
         (true, _) if s.shrinking => usage(
@@ -447,6 +469,17 @@ fn fits_together(command: Command, s: &Settings) -> Result<(), Trouble> {
         ),
         _ => Ok(()),
     }
+}
+
+/// Whether samples may be moved, and have ceilings that may differ.
+fn travels(trail: bool, s: &Settings) -> Result<(), Trouble> {
+    let why = match (trail, s.fit, &s.retired) {
+        (true, _, _) => "a trail is told with -h 0 only, where no sample moves",
+        (_, Fit::Nu | Fit::OneClass, _) => "only -s 0 has ceilings that may differ",
+        (_, _, Some(_)) => "with --retired shrinking is off, and no sample moves",
+        _ => return Ok(()),
+    };
+    usage(format!("--travelling: {}; leave it out", why))
 }
 
 fn number<T: FromStr>(option: &str, value: &str, what: &str) -> Result<T, Trouble> {
@@ -595,6 +628,8 @@ mod tests {
         // What a model records is read back as it was given.
         let s = settings("-s 0 -c 2.5 -w-1 3.0 -e 0.001 -h 1 --budget 9 --floor 1e-12").unwrap();
         assert_eq!((s.cost_of(-1), s.cost_of(1), s.budget), (7.5, 2.5, 9));
+        assert!(!s.travelling && settings("-s 0 -h 1 --travelling").unwrap().travelling);
+        assert!(call("train --travelling a").settings.travelling);
         assert!(settings("-s 0 a").is_err() && settings("-q").is_err() && settings("").is_err());
     }
 
@@ -657,7 +692,7 @@ mod tests {
         let s = call("train a").settings;
         assert_eq!((s.fit, s.cost, s.nu, s.eps), (Fit::C, 1.0, 0.5, 0.001));
         assert_eq!((s.shrinking, s.budget), (false, 10_000_000));
-        assert_eq!(s.floor, 1e-10);
+        assert_eq!((s.floor, s.travelling), (1e-10, false));
         for told in [
             "usually 1)",
             "usually 0.5)",
@@ -727,6 +762,24 @@ mod tests {
                 "trail --sample 1 --floor 1e-12 a",
                 "--floor: a trail is told with the usual one only, 1e-10; where every curvature is above 0 no floor has a say",
             ),
+            (
+                "trail --sample 1 --travelling a",
+                "--travelling: a trail is told with -h 0 only, where no sample moves; leave it out",
+            ),
+            (
+                "train -s 1 --travelling a",
+                "--travelling: only -s 0 has ceilings that may differ; leave it out",
+            ),
+            (
+                "check --travelling -s 2 -h 1 a",
+                "--travelling: only -s 0 has ceilings that may differ; leave it out",
+            ),
+            (
+                "weights --travelling --retired 1 -h 1 a",
+                "--travelling: with --retired shrinking is off, and no sample moves; leave it out",
+            ),
+            ("train --travelling=1 a", "--travelling: it has no value"),
+            ("sort --travelling a b", "`sort` has no option '--travelling'"),
             (
                 "trail --sample 1 --retired 2 -s 2 a",
                 "--retired: only -s 0 trains with retired samples",

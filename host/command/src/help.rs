@@ -50,6 +50,10 @@ Options, named as svm-train's where they mean the same. -c10 is -c 10, --floor=1
               else it is refusal 14 (usually 1e-10, as in linfa-svm; svm-train has 1e-12). A smaller
               one takes longer steps along flat directions; where every curvature is above 0 it has
               no say. With another one than the usual there is no trail
+  --travelling
+              a sample keeps its own ceiling when shrinking moves it, for -s 0 without --retired,
+              not for `trail`. Without it a step clips its weight by the ceiling of the place where
+              it then stands, as in linfa-svm. It has a say only with -h 1 and costs that differ
   --retired LIST
               trains without the samples that were withdrawn, for -s 0 with -h 0. They stay in FILE,
               so every sample keeps its number. LIST has their serial numbers, as 20,31; or it is
@@ -102,10 +106,11 @@ pub const TRAIN: &str = concat!(
 Trains the problem of FILE, writes a model file and says how the run ended: the lines that
 svm-train ends with, the options, and the exit reason. (threshold: no pair is left to mend, with
 -h 1: among the samples still active; iterations: the budget ran out.) With --retired it also says
-who is retired, and with --floor a floor that isn't the usual one. nSV counts the weights above
-100*2^-52 in magnitude, and nBSV those of them that are at their ceiling or above it. Notes are told
-on standard error: a kernel that isn't symmetric, costs that differ, what shrinking leaves out,
-weights that the Rust crate linfa-svm gives to others. With -q nothing else is told.
+who is retired, with --floor a floor that isn't the usual one, and --travelling where it is on. nSV
+counts the weights above 100*2^-52 in magnitude, and nBSV those of them that are at their ceiling or
+above it. Notes are told on standard error: a kernel that isn't symmetric, costs that differ,
+--travelling where it has no say, what shrinking leaves out, weights that the Rust crate linfa-svm
+gives to others. With -q nothing else is told.
 
 MODEL is what LIBSVM's svm-predict reads for a precomputed kernel. Where it isn't named it is
 FILE's name with .model, in this folder. Its weights are each sample's own (the home reading), all
@@ -221,12 +226,12 @@ altuliscia weights [OPTIONS] MODEL
 Trains the problem of FILE and lists every sample: its number from 0 on, its serial number in
 FILE, its label, its own weight (signed by its class), `at` where the weight is at its ceiling,
 `above` where it is above it, `retired` where the sample is retired (then its weight is 0), and
-what the Rust crate linfa-svm says, or would say with another floor, where that is another
-weight.
+what the Rust crate linfa-svm says, or would say with another floor or with --travelling, where
+that is another weight.
 The exit reason, rho and the options are told on standard error, who is retired, a floor that isn't
-the usual one, and the notes of `train`; with -q only the notes. Where what was trained isn't to be
-released, it is listed all the same, and the exit status is 6. Where FILE has more than two labels,
---pair says which two are trained. No file is written.
+the usual one, --travelling where it is on, and the notes of `train`; with -q only the notes. Where
+what was trained isn't to be released, it is listed all the same, and the exit status is 6. Where
+FILE has more than two labels, --pair says which two are trained. No file is written.
 
 Where the file's first word is svm_type it is a MODEL: then nothing is trained, and what it has is
 listed, every weight that isn't 0 with its serial number, its label and the other label of its pair.
@@ -290,10 +295,10 @@ pub const CHECK: &str = concat!(
 Reads FILE and names all that the library would refuse, in FILE and in the options, a line each on
 standard output: where it stands, what must be, and the refusal's number. What is wrong with the
 list of --retired is named, too, a serial number of two lines or of none, and a nu that can't be
-met. Notes are told on standard error: a kernel that isn't symmetric, costs that differ. Refusal 11
-can't be known without training. Where FILE has more than two labels, every pair is looked at, and
-what several would meet is named once, with the first. Nothing is trained and no file is written.
-The exit status is that of the first line.
+met. Notes are told on standard error: a kernel that isn't symmetric, costs that differ,
+--travelling where it has no say. Refusal 11 can't be known without training. Where FILE has more
+than two labels, every pair is looked at, and what several would meet is named once, with the first.
+Nothing is trained and no file is written. The exit status is that of the first line.
 
 ",
     options!(),

@@ -103,6 +103,8 @@ fn of_one_training(
     let settings = &call.settings;
     let mut judged = faults::judged(samples, settings, ceilings, listed);
     judged.faults.splice(0..0, whole.wrong.iter().cloned());
+    let both = [ceilings.0, ceilings.1];
+    judged.notes.extend(report::of_travelling(settings, &both));
     let mut notes = judged.stand(call, samples, out, err)?;
     if call.command == Command::Check {
         return Ok(());
@@ -309,6 +311,7 @@ fn answered(s: &Samples, settings: &Settings, costs: (f64, f64)) -> Result<Answe
     let labels = s.positive();
     let mut tuned = Tuned::from(options(settings));
     tuned.floor = settings.floor;
+    tuned.travelling = settings.travelling;
     training(s, settings, costs, &labels).fit_tuned(&tuned)
 }
 

@@ -4,7 +4,7 @@ use crate::model::double;
 use crate::problem::Samples;
 use crate::saved::Model;
 use crate::{record, report, text, Trouble};
-use altuliscia::{pairs, Answer, ExitReason, USUAL_FLOOR};
+use altuliscia::{pairs, Answer, ExitReason};
 
 /// A weight of a sample in a training.
 pub struct Row {
@@ -164,7 +164,7 @@ impl List {
 
     /// A line for each sample, with the crate's reading where it is another.
     fn table(&self, settings: &Settings) -> String {
-        let says = match settings.floor == USUAL_FLOOR {
+        let says = match settings.as_linfa_svm() {
             true => "linfa-svm says",
             false => "linfa-svm would say",
         };

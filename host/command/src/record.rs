@@ -150,7 +150,7 @@ fn sum<'a>(lines: impl Iterator<Item = &'a str>) -> String {
     hash.digits()
 }
 
-/// The options that have a say in a training, as `train` takes them.
+/// The options that have a say in a training, and --travelling where it is asked for, as `train` takes them.
 pub fn options(s: &Samples, settings: &Settings) -> String {
     let mut words = match settings.fit {
         Fit::C => format!("-s 0 -c {}", double(settings.cost)),
@@ -162,13 +162,19 @@ pub fn options(s: &Samples, settings: &Settings) -> String {
             words += &format!(" -w{} {}", label, double(*factor));
         }
     }
+    let travelling = if settings.travelling {
+        " --travelling"
+    } else {
+        ""
+    };
     format!(
-        "{} -e {} -h {} --budget {} --floor {}",
+        "{} -e {} -h {} --budget {} --floor {}{}",
         words,
         double(settings.eps),
         u8::from(settings.shrinking),
         settings.budget,
-        double(settings.floor)
+        double(settings.floor),
+        travelling
     )
 }
 

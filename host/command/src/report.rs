@@ -99,10 +99,15 @@ pub fn of_pair(s: &Samples, settings: &Settings, ceilings: (f64, f64), a: &Answe
     lines
 }
 
-/// What is told of all pairs together: who is retired, a floor that isn't the usual one, the options.
+/// What is told of all pairs together: who is retired, a floor that isn't the usual one, ceilings that travel, the options.
 pub fn of_all(s: &Samples, settings: &Settings) -> Vec<String> {
     let options = format!("options: {}", record::options(s, settings));
-    let first = retired(s).into_iter().chain(floor(settings));
+    let told = || "travelling: each sample keeps its own ceiling".to_string();
+    let travelling = settings.travelling.then(told);
+    let first = retired(s)
+        .into_iter()
+        .chain(floor(settings))
+        .chain(travelling);
     first.chain([options]).collect()
 }
 
@@ -194,14 +199,25 @@ pub fn of_answer(s: &Samples, settings: &Settings, a: &Answer) -> Option<String>
             "note: {} of {} samples have another weight in the list that linfa-svm {}; the model has each sample's own",
             parted,
             s.n,
-            if settings.floor == USUAL_FLOOR {
-                "answers"
-            } else {
-                "would answer with this floor"
+            match (settings.as_linfa_svm(), settings.travelling) {
+                (true, _) => "answers",
+                (false, false) => "would answer with this floor",
+                (false, true) => "would answer with these options",
             }
         )
     };
     (parted > 0).then(told)
+}
+
+/// The note on ceilings that travel, where that changes nothing: by ceilings of the classes.
+pub fn of_travelling(settings: &Settings, ceilings: &[f64]) -> Option<String> {
+    let why = match settings.shrinking {
+        false => "with -h 0 no sample moves",
+        true if ceilings.iter().all(|c| *c == ceilings[0]) => "all ceilings are the same",
+        true => return None,
+    };
+    let note = || format!("note: --travelling has no say here: {}", why);
+    settings.travelling.then(note)
 }
 
 /// The note on shrinking, where it is on.

@@ -74,6 +74,7 @@ pub fn carried_out(
     }
     let mut judged = faults::of_pairs(s, settings, costs, listed);
     judged.faults.splice(0..0, whole.wrong);
+    judged.notes.extend(report::of_travelling(settings, costs));
     let mut notes = judged.stand(call, s, out, err)?;
     if call.command == Command::Check {
         return Ok(());

@@ -135,7 +135,7 @@ fn weights_that_are_listed_and_not_counted_are_told() {
     let note = "note: the costs differ: label 1 has 1.0, label -1 has 1e-14; it isn't promised then that every weight lies in 0..ceiling\n";
     assert_eq!((out.as_str(), err.as_str()), ("", note));
     let help = told("train --help", "", "").unwrap();
-    assert!(help.contains("nSV counts the weights above\n100*2^-52 in magnitude"));
+    assert!(help.contains("nSV\ncounts the weights above 100*2^-52 in magnitude"));
     assert!(help.contains("where these are more than nSV, a line says how many and why."));
 }
 

@@ -17,10 +17,13 @@ const ANSWER: usize = 72;
 const TUNED_ANSWER: usize = 128;
 /// The longest tuning that is lent, in bytes.
 const MOST_TUNING: usize = 24;
-/// How many bytes the known words of a tuning take.
-const WORDS: usize = 8;
-/// Lengths of a tuning that are refused: next to those that aren't, and a word more.
-pub const REFUSED_LENGTHS: [usize; 4] = [1, 7, 9, 16];
+/// How many bytes a tuning with a floor takes, and how many one with the mode behind it.
+const FLOOR: usize = 8;
+pub const MODE: usize = 16;
+/// Lengths of a tuning that every function refuses: next to those that aren't, and a word more.
+pub const REFUSED_LENGTHS: [usize; 6] = [1, 7, 9, 15, 17, 24];
+/// Word 1 of a tuning where the mode is travelling: anything but 0.
+pub const ON: [u64; 5] = [1, 2, 1 << 32, 1 << 63, u64::MAX];
 
 /// What is lent as a tuning.
 #[derive(Clone, Copy, PartialEq)]
@@ -29,6 +32,8 @@ pub enum Tuning {
     Without,
     Empty,
     Floor,
+    /// The floor, and behind it the mode.
+    Mode,
 }
 
 /// One call: the problem, and each list as its bytes are lent.
@@ -97,17 +102,30 @@ fn room(g: &mut Random, places: u64, short: bool) -> Lent {
     }
 }
 
+/// Whether the entry's function knows a tuning of so many bytes. With retired samples it knows no mode.
+fn is_known(entry: Entry, len: usize) -> bool {
+    len == 0 || len == FLOOR || (len == MODE && entry != Entry::Retired)
+}
+
 /// How many bytes of tuning are lent: those that are asked for, or any other number but what is known.
-fn tuning_len(g: &mut Random, spoiled: Spoiled, lends: Tuning) -> usize {
+fn tuning_len(g: &mut Random, entry: Entry, spoiled: Spoiled, lends: Tuning) -> usize {
     match (spoiled, lends) {
         (Spoiled::Tuning, _) if g.coin() => g.pick(&REFUSED_LENGTHS),
         (Spoiled::Tuning, _) => {
-            let len = 1 + g.place(MOST_TUNING - 1);
-            len + usize::from(len >= WORDS)
+            let unknown = (1..=MOST_TUNING).filter(|len| !is_known(entry, *len));
+            g.pick(&unknown.collect::<Vec<usize>>())
         }
-        (_, Tuning::Floor) => WORDS,
+        (_, Tuning::Mode) => MODE,
+        (_, Tuning::Floor) => FLOOR,
         _ => 0,
     }
+}
+
+/// The words of a tuning, and one more, which no function knows.
+fn tuning_words(g: &mut Random, p: &Problem) -> Vec<u8> {
+    let mode = if p.travelling { g.pick(&ON) } else { 0 };
+    let words = [p.floor.to_bits(), mode, 1];
+    words.iter().flat_map(|word| word.to_le_bytes()).collect()
 }
 
 fn answer_bytes(entry: Entry, lends: Tuning) -> usize {
@@ -124,7 +142,7 @@ impl Call {
         Call::tuned(g, p, spoiled, Tuning::Without)
     }
 
-    /// The problem's floor has to be the usual one where it isn't lent.
+    /// The problem's floor has to be the usual one where it isn't lent, and its mode the crate's.
     pub fn tuned(g: &mut Random, mut p: Problem, spoiled: Spoiled, lends: Tuning) -> Call {
         let one = if g.coin() { 1 } else { -1 };
         let more = |what: Spoiled| if what == spoiled { one } else { 0 };
@@ -157,8 +175,8 @@ impl Call {
             call.retired = Lent::holding(g, &call.p.retired);
         }
         if call.takes_tuning() {
-            let mut bytes = call.p.floor.to_bits().to_le_bytes().to_vec();
-            bytes.resize(tuning_len(g, spoiled, lends), 0);
+            let mut bytes = tuning_words(g, &call.p);
+            bytes.truncate(tuning_len(g, call.p.entry, spoiled, lends));
             call.tuning = Lent::holding(g, &bytes);
         }
         call
@@ -181,7 +199,7 @@ impl Call {
         (!entry.has_labels() || self.labels.len == n)
             && (!entry.has_lists() || floats.iter().all(|l| l.len == 8 * n))
             && (entry != Entry::Retired || self.retired.len == n)
-            && [0, WORDS].contains(&self.tuning.len)
+            && is_known(entry, self.tuning.len)
             && self.matrix.len == 8 * n * n
             && self.crate_reading.len >= 8 * n
             && self.home.len >= 8 * n

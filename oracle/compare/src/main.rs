@@ -5,6 +5,7 @@ mod captioned;
 mod faint;
 mod lent;
 mod made;
+mod modes;
 mod pair;
 mod reached;
 mod recorded;
@@ -36,6 +37,9 @@ compare tuned FIRST LAST
 compare still FIRST LAST
     the C functions of C, nu and one-class with shrinking off, with floors and without, likewise; and each accepted call again by the first
     trainer, through the general function and by position: all bytes of the answer and both readings must be the same
+compare modes FIRST LAST
+    the four C functions that know a mode, in the crate's and in travelling, each beside the Rust in that mode, likewise; with one common
+    ceiling, and with shrinking off, both modes must write the same bytes
 compare recorded FILE
     the proved run by itself, on the recorded general problems: order and weights by position, rho, r, obj, iterations, reason,
     refusal 11, and after each pass that is recorded the weights of its pair; and the C functions on those with retired samples, and on
@@ -62,6 +66,9 @@ fn main() -> ExitCode {
         }
         ["still", first, last] => {
             both(first, last).map(|(first, last)| still::compare(first, last))
+        }
+        ["modes", first, last] => {
+            both(first, last).map(|(first, last)| modes::compare(first, last))
         }
         ["pair", first, last] => both(first, last).map(|(first, last)| pair::compare(first, last)),
         ["recorded", file] => recorded::compare(file),

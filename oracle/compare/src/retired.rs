@@ -1,5 +1,5 @@
 //! The C function with retired samples. Beside an accepted call stands another one that must write the same bytes.
-use crate::call::{Call, Spoiled};
+use crate::call::{Call, Spoiled, MODE};
 use crate::called::each_seed;
 use crate::made::Made;
 use crate::reached::tell;
@@ -15,6 +15,8 @@ struct Counts {
     /// One for each mark of the retired entry.
     marks: Vec<u64>,
     tuned: u64,
+    /// Those with a floor and a mode, which this function doesn't know.
+    with_mode: u64,
     null_tuning: u64,
     null_retired: u64,
     /// Accepted calls made again with other retired samples.
@@ -29,6 +31,7 @@ impl Counts {
         let mut call = Call::new(g, p, spoiled);
         let answer = self.made.call(seed, &mut call);
         self.tuned += u64::from(call.tuning.len > 0);
+        self.with_mode += u64::from(call.tuning.len == MODE);
         self.null_tuning += u64::from(call.tuning.null);
         self.null_retired += u64::from(call.retired.null);
         self.marks.resize(RETIRED.len(), 0);
@@ -70,6 +73,7 @@ impl Counts {
         }
         let rest = [
             (self.tuned, "with a tuning that isn't empty"),
+            (self.with_mode, "of those with one of 16 bytes"),
             (self.null_tuning, "with the tuning lent as NULL"),
             (self.null_retired, "with empty retired bytes lent as NULL"),
             (self.others, "made again with other retired samples"),

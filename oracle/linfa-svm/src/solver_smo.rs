@@ -16,6 +16,7 @@ pub struct SolverParams<F: Float> {
     pub shrinking: bool,
     pub budget: usize, // oracle
     pub floor: F, // oracle
+    pub travelling: bool, // oracle
 }
 
 /// Status of alpha variables of the solver
@@ -199,6 +200,7 @@ impl<'a, F: Float, K: 'a + Permutable<F>> SolverState<'a, F, K> {
         self.active_set.swap(i, j);
         self.kernel.swap_indices(i, j);
         self.targets.swap(i, j);
+        if self.params.travelling { self.bounds.swap(i, j); } // oracle
     }
 
     /// Reconstruct gradients from inactivate variables

@@ -9,7 +9,8 @@ use std::cell::RefCell;
 #[derive(Clone, Copy, Debug, Default, PartialEq)]
 pub struct Given {
     pub weights: [f64; 2],
-    /// Those of the two places, which the step clips by.
+    /// What the step clips by: the ceilings of the two places, in the travelling
+    /// mode those of the two samples.
     pub ceilings: [f64; 2],
     pub gradients: [f64; 2],
     pub diagonals: [f64; 2],

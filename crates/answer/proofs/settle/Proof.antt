@@ -17,7 +17,7 @@ returns-2 c =
     let b = c .before .before .before .before .before .before .before .before .before .before .before .read-both .ensures in
     let w = full (s .args .r) (now (s .args .f)) (now (s .args .u)) (now (s .args .y)) in
     settled-fine (s .args .g) (s .args .how) (now (s .args .l)) (s .args .budget) w (now (s .args .cr)) (now (s .args .h)) _ _ _ _
-    (sym (c .before .before .before .before .before .before .before .before .before .before .before .before .before .before .before .before .is-stuck .ensures) ∙ c .before .before .before .before .before .before .before .before .before .before .before .before .before .before .before .if1 .left) (c .before .before .before .before .before .before .before .before .before .before .before .before .before .before .level-by .ensures) (b .0) (b .1)
+    (sym (c .before .before .before .before .before .before .before .before .before .before .before .before .before .before .before .before .is-stuck .ensures) ∙ c .before .before .before .before .before .before .before .before .before .before .before .before .before .before .before .if1 .left) (c .before .before .before .before .before .before .before .before .before .before .before .before .before .before .level-at .ensures) (b .0) (b .1)
     (rw (c .before .before .before .before .before .before .rho-of .ensures, c .before .before .before .before .before .ratio-of .ensures, c .before .before .before .obj-of .ensures, c .before .before .before .before .objective .ensures, c .before .before .reason .ensures, c .support .ensures))
 
 pub settle-spec : {M : Type 1} → statement M

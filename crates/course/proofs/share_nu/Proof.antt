@@ -11,12 +11,12 @@ use Rattle.course.proofs.share_nu.Statement.{statement}
 use Rattle.course.proofs.share_nu.Tie as tie
 
 abbrev Inv-loop : tie.InvT-loop
-Inv-loop f y m g cpos cneg label n s₀ k₀ s k =
+Inv-loop f y m g cpos cneg label x n s₀ k₀ s k =
     let o = readIn (g .nu) (g .n) f in
-    (k ≤ n) × (s ≡ shareNuOf y (alphaOf y (ceilingsOf cpos cneg) o) (slope g m y (ceilingsOf cpos cneg) o) label k) × (s .free ≤ k)
+    (k ≤ n) × (s ≡ shareNuOf y (alphaOf y (ceilingsOf cpos cneg) o) (slope g m y (ceilingsOf cpos cneg) o) x label k) × (s .free ≤ k)
 
 abbrev μ-loop : tie.MeasureT-loop
-μ-loop f y m g cpos cneg label n s₀ k₀ s k = n - k
+μ-loop f y m g cpos cneg label x n s₀ k₀ s k = n - k
 
 loop-holds : tie.Need-loop-holds Inv-loop μ-loop
 unfolding shareNuOf div neg ofBits

@@ -11,11 +11,11 @@ use Rattle.reconstruct.proofs.all_outer.Statement.{statement}
 use Rattle.reconstruct.proofs.all_outer.Tie as tie
 
 abbrev Inv-loop : tie.InvT-loop
-Inv-loop f₀ u y m n side kind active count k₀ f k =
-    (k ≤ count) × (length f ≡ length f₀) × (f ≡ outerTo (problem n side kind m) active (state f₀ u y) k) × (count ≡ n - active)
+Inv-loop f₀ u y m n side kind inner active count k₀ f k =
+    (k ≤ count) × (length f ≡ length f₀) × (f ≡ outerTo (problem n side kind m) inner active (state f₀ u y) k) × (count ≡ n - active)
 
 abbrev μ-loop : tie.MeasureT-loop
-μ-loop f₀ u y m n side kind active count k₀ f k = count - k
+μ-loop f₀ u y m n side kind inner active count k₀ f k = count - k
 
 loop-holds : tie.Need-loop-holds Inv-loop μ-loop
 unfolding outerTo

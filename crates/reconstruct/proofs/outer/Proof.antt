@@ -6,12 +6,12 @@ use Rattle.reconstruct.proofs.outer.Statement.{statement}
 use Rattle.reconstruct.proofs.outer.Tie as tie
 
 returns : tie.Need-returns
-returns c = rw (← c .before .before .alpha-at .ensures) (outer-kept _ _ _ _ _ (sym (c .before .free-floating .ensures) ∙ not-true _ (c .if1 .taken)))
+returns c = rw (← c .before .before .alpha-at .ensures) (outer-kept _ _ _ _ _ _ (sym (c .before .asked .ensures) ∙ not-true _ (c .if1 .taken)))
 
 returns-2 : tie.Need-returns-2
 returns-2 c =
     rw (← c .before .before .before .before .before .alpha-at .ensures, c .weighted .ensures)
-    (outer-free _ _ _ _ _ (sym (c .before .before .before .before .free-floating .ensures) ∙ not-false _ (c .before .before .before .if1 .left)))
+    (outer-free _ _ _ _ _ _ (sym (c .before .before .before .before .asked .ensures) ∙ not-false _ (c .before .before .before .if1 .left)))
 
 pub outer-spec : {M : Type 1} → statement M
 outer-spec =

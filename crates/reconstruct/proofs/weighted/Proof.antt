@@ -10,11 +10,11 @@ use Rattle.reconstruct.proofs.weighted.Statement.{statement}
 use Rattle.reconstruct.proofs.weighted.Tie as tie
 
 abbrev Inv-loop : tie.InvT-loop
-Inv-loop f u y m n side kind active i start c a g₀ j₀ g j =
-    (j ≤ active) × (g ≡ weightedTo (problem n side kind m) (state f u y) i start j) × (c < side) × (c ≡ kernelIndex n u i)
+Inv-loop f u y m n side kind inner active i start c a g₀ j₀ g j =
+    (j ≤ active) × (g ≡ weightedTo (problem n side kind m) inner (state f u y) i start j) × (c < side) × (c ≡ kernelIndex n u i)
 
 abbrev μ-loop : tie.MeasureT-loop
-μ-loop f u y m n side kind active i start c a g₀ j₀ g j = active - j
+μ-loop f u y m n side kind inner active i start c a g₀ j₀ g j = active - j
 
 loop-holds : tie.Need-loop-holds Inv-loop μ-loop
 unfolding weightedTo
@@ -23,8 +23,8 @@ loop-holds c = (search needs, refl, c .before .index-at .ensures .1, c .before .
 loop-again : tie.Need-loop-again Inv-loop μ-loop
 unfolding weightedTo rowAt
 loop-again c =
-    let v = c .before .before .before .loop .inv in
-    (search needs, rw (add-one, ← v .1, ← v .3, ← c .reach .ensures), v .2, v .3)
+    let v = c .before .before .before .before .loop .inv in
+    (search needs, rw (add-one, ← v .1, ← v .3, ← c .before .reach .ensures, ← c .before .before .alpha-at .ensures) (c .bring .ensures), v .2, v .3)
 
 returns : tie.Need-returns Inv-loop μ-loop
 returns c =
@@ -40,10 +40,8 @@ weighted-spec =
     (λ c κs. search needs)
     (λ c. search needs)
     loop-holds
-    (λ c. search needs)
-    (λ c. search needs)
-    (λ c. search needs)
-    (λ c. search needs)
+    (λ c κs. search needs)
+    (λ c κs. search needs)
     (λ c κs. search needs)
     (λ c. search needs)
     (λ c. search needs)

@@ -9,10 +9,10 @@ use Rattle.rho.proofs.share_nu.Statement.{statement}
 use Rattle.rho.proofs.share_nu.Tie as tie
 
 abbrev Inv-loop : tie.InvT-loop
-Inv-loop f y n active label s₀ k₀ s k = (k ≤ active) × (s .free ≤ k) × (s ≡ shareNu n f y label k)
+Inv-loop f y n active label repaired s₀ k₀ s k = (k ≤ active) × (s .free ≤ k) × (s ≡ shareNu repaired n f y label k)
 
 abbrev μ-loop : tie.MeasureT-loop
-μ-loop f y n active label s₀ k₀ s k = active - k
+μ-loop f y n active label repaired s₀ k₀ s k = active - k
 
 loop-holds : tie.Need-loop-holds Inv-loop μ-loop
 unfolding shareNu ofBits div neg

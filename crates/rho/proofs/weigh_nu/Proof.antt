@@ -1,8 +1,17 @@
+use Prim.Native.Nat.{_+_, _≤_}
+use mathlib.Core.Bool.{Bool, true, false}
 use native.Mathlib.Omega.{arith}
-use Rattle.rho.specs.Rho.{shareWithNu}
+use lib.Ieee.{Float}
+use Rattle.rho.specs.Rho.{ubMoved, shareWithNu}
+use Rattle.rho.specs.declared.Share.{Share}
 use borrow.Author.Needs.{needs}
 use Rattle.rho.proofs.weigh_nu.Statement.{statement}
 use Rattle.rho.proofs.weigh_nu.Tie as tie
+
+moved-free : (x : Bool) (s : Share) (g : Float) → ubMoved x s g .free ≤ s .free + 1
+unfolding ubMoved
+moved-free true s g = omega arith
+moved-free false s g = omega arith
 
 returns : tie.Need-returns
 unfolding shareWithNu
@@ -10,7 +19,7 @@ returns c = (rw (← c .before .before .reached-upper .ensures, c .before .if1 .
 
 returns-2 : tie.Need-returns-2
 unfolding shareWithNu
-returns-2 c = (rw (← c .before .before .before .before .reached-upper .ensures, c .before .before .before .if1 .left, ← c .before .before .reached-lower .ensures, c .before .if2 .taken) (c .ub-raised .ensures), rw (c .ub-raised .ensures) (omega arith))
+returns-2 c = (rw (← c .before .before .before .before .reached-upper .ensures, c .before .before .before .if1 .left, ← c .before .before .reached-lower .ensures, c .before .if2 .taken) (c .ub-moved .ensures), rw (c .ub-moved .ensures) (moved-free _ _ _))
 
 returns-3 : tie.Need-returns-3
 unfolding shareWithNu

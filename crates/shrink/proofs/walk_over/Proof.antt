@@ -14,7 +14,7 @@ use Rattle.shrink.proofs.walk_over.Tie as tie
 abbrev Inv-loop : tie.InvT-loop
 Inv-loop f₀ u₀ y₀ n l start w₀ i₀ f u y w i =
     (i ≤ start) × (w .active ≤ start)
-    × (_≡_ {A = Walking State} (walking (w .active) (w .refused) (state f u y)) (walked (dropsAt n l) (moved n) start (state f₀ u₀ y₀) i))
+    × (_≡_ {A = Walking State} (walking (w .active) (w .refused) (state f u y)) (walked (l .ends) (dropsAt n l) (moved n) start (state f₀ u₀ y₀) i))
     × (length f ≡ length f₀) × (length u ≡ length u₀) × (length y ≡ length y₀)
 
 abbrev μ-loop : tie.MeasureT-loop

@@ -1,8 +1,7 @@
 use mathlib.Core.Path.{ap, _∙_}
 use native.Mathlib.Omega.{arith}
 use denote.Ref.{now}
-use Rattle.solver.specs.End.{activeAt}
-use Rattle.solver.specs.Run.{Full, full, withRun}
+use Rattle.solver.specs.Run.{activeAt, Full, full, withRun}
 use Rattle.solver.proofs.Laws.{closed-out, closed-in}
 use borrow.Author.Needs.{needs}
 use Rattle.solver.proofs.close.Statement.{statement}

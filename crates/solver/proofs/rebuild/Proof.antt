@@ -5,7 +5,7 @@ use Rattle.solver.proofs.rebuild.Tie as tie
 
 returns : tie.Need-returns
 unfolding rebuilt
-returns c = rw (← c .before .before .reconstruct-gradient .ensures)
+returns c = rw (← c .before .before .before .before .is-repaired .ensures, ← c .before .before .reconstruct-gradient .ensures)
 
 pub rebuild-spec : {M : Type 1} → statement M
-rebuild-spec = tie.close (tie.spec (λ c κs. search needs) (λ c. search needs) returns)
+rebuild-spec = tie.close (tie.spec (λ c κs. search needs) (λ c κs. search needs) (λ c. search needs) returns)

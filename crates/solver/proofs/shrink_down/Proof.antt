@@ -25,7 +25,7 @@ returns c =
     let k = c .before .before .before .before .before .before .before .walk-over in
     let p = problemOf (s .args .g) (now (s .args .m)) in
     let l = c .before .before .before .before .before .before .before .before .before .before .before .before .before .before .before .before .before .before .tops-of .result .limits in
-    let z = ready-walked p (dropsAt (s .args .g .n) l) (q .result .active) (q .ensures .1 .active) _ (q .result .active) (q .ensures .1 .active) (ready-floats (s .pre .0) _ (q .kept .0)) in (
+    let z = ready-walked p (l .ends) (dropsAt (s .args .g .n) l) (q .result .active) (q .ensures .1 .active) _ (q .result .active) (q .ensures .1 .active) (ready-floats (s .pre .0) _ (q .kept .0)) in (
       shrunk-by (s .args .g) (now (s .args .m)) (full (s .args .r) (now (s .args .f)) (now (s .args .u)) (now (s .args .y))) (c .before .before .before .before .before .before .before .before .before .before .before .before .before .before .before .before .before .before .tops-of .result) _ _ _ (c .before .before .before .before .before .before .before .before .before .before .before .before .before .before .before .before .before .before .tops-of .ensures) (q .ensures .0) (k .ensures .0) (c .after-walk .ensures),
       rw (c .after-walk .ensures) (record { active = omega (arith, k .ensures .1, q .ensures .1 .active); some = q .ensures .1 .some; few = q .ensures .1 .few }),
       subst (λ (x : Walking State). Ready p (x .state)) (sym (k .ensures .0)) (z .kept),

@@ -17,7 +17,7 @@ step-requires c κs =
 look-requires : tie.Need-look-requires
 look-requires c κs =
     let s = c .before .before .before .before .before .before .before .before .before .before .before .before .before .before in
-    (ready-floats (s .pre .0) _ (c .before .before .before .rebuild .kept .0), s .pre .1, s .pre .2, s .pre .3)
+    (ready-floats (s .pre .0) _ (c .before .before .before .refresh .kept .0), s .pre .1, c .before .before .before .refresh .ensures .1, rw (c .before .before .before .refresh .ensures .2) (s .pre .3))
 
 returns : tie.Need-returns
 returns c =
@@ -30,9 +30,9 @@ returns-2 c =
     let s = c .before .before .before .before .before .before .before .before .before .before .before .before .before .before .before .before .before in
     let d = c .before .before .look in (
       d .ensures .0
-          ∙ rw (c .before .before .before .before .before .before .rebuild .ensures) (worked-none (s .args .g) (now (s .args .m)) (full (s .args .r) (now (s .args .f)) (now (s .args .u)) (now (s .args .y))) (now (s .args .b)) (sym (c .before .before .before .before .before .before .before .before .before .before .select .ensures) ∙ c .before .before .before .before .before .before .before .before .enum-told .given .1)),
+          ∙ rw (c .before .before .before .before .before .before .refresh .ensures .0) (worked-none (s .args .g) (now (s .args .m)) (full (s .args .r) (now (s .args .f)) (now (s .args .u)) (now (s .args .y))) (now (s .args .b)) (sym (c .before .before .before .before .before .before .before .before .before .before .select .ensures) ∙ c .before .before .before .before .before .before .before .before .enum-told .given .1)),
       d .ensures .1,
-      d .ensures .2,
+      rw (c .before .before .before .before .before .before .refresh .ensures .2) at (d .ensures .2),
     )
 
 pub work-spec : {M : Type 1} → statement M

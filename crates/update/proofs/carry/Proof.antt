@@ -12,12 +12,12 @@ settle-requires c κs =
 
 settle-requires-2 : tie.Need-settle-requires-2
 settle-requires-2 c κs =
-    let s = c .before .before .before .before .before .before .before .before .before .before .before .before .before .before .before .before .before .before in
-    (ready-floats (s .pre .0) _ (omega (arith, c .before .before .before .settle .kept .0, c .before .before .before .before .before .before .before .shift .kept .0)), s .pre .1, s .pre .4, omega (arith, s .pre .2))
+    let s = c .before .before .before .before .before .before .before .before .before .before .before .before .before .before .before .before .before .before .before in
+    (ready-floats (s .pre .0) _ (omega (arith, c .before .before .before .before .settle .kept .0, c .before .before .before .before .before .before .before .before .shift .kept .0)), s .pre .1, s .pre .4, c .reach .ensures .1)
 
 returns : tie.Need-returns
 unfolding carried
-returns c = rw (c .before .before .settle2 .ensures, c .before .before .before .before .before .before .settle .ensures, c .before .before .before .before .before .before .before .before .before .before .shift .ensures)
+returns c = rw (c .before .before .settle2 .ensures, c .before .before .before .reach .ensures .0, c .before .before .before .before .before .before .before .settle .ensures, c .before .before .before .before .before .before .before .before .before .before .before .shift .ensures)
 
 pub carry-spec : {M : Type 1} → statement M
 carry-spec =
@@ -33,6 +33,7 @@ carry-spec =
     (λ c. search needs)
     (λ c κs. search needs)
     settle-requires
+    (λ c κs. search needs)
     settle-requires-2
     (λ c. search needs)
     returns)

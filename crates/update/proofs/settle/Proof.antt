@@ -14,12 +14,12 @@ slice-write-f-2 c = simp length-set (omega arith)
 returns : tie.Need-returns
 unfolding settled stored
 returns c =
-    rw (c .before .before .from2 .ensures)
-    (kept _ _ _ _ _ _ (rw (c .before .before .before .before .reached-upper .ensures, c .before .before .before .before .before .from .ensures, c .before .reached-upper2 .ensures, c .before .before .from2 .ensures) at (c .if1 .taken)))
+    rw (c .before .before .from .ensures, c .before .before .before .ceiling-at .ensures)
+    (kept _ _ _ _ _ _ (rw (c .before .before .before .before .before .counted-upper .ensures, c .before .before .before .before .before .before .alpha-at .ensures, c .before .reached-upper .ensures, c .before .before .from .ensures, c .before .before .before .ceiling-at .ensures) at (c .if1 .taken)))
 
 add-row-requires : tie.Need-add-row-requires
 add-row-requires c κs =
-    let s = c .before .before .before .before .before .before .before .before .before .before .before .before .before .before in
+    let s = c .before .before .before .before .before .before .before .before .before .before .before .before .before .before .before in
     (ready-floats (s .pre .0) _ (simp length-set), s .pre .2, omega (arith, s .pre .3), omega arith)
 
 same-length-2 : tie.Need-same-length-2
@@ -29,21 +29,16 @@ returns-2 : tie.Need-returns-2
 unfolding settled stored
 returns-2 c =
     c .before .before .add-row .ensures
-    ∙ rw (c .before .before .before .before .signed .ensures, c .before .before .before .before .before .before .before .before .before .reached-upper .ensures, c .before .before .before .before .before .before .before .before .before .before .from .ensures, c .before .before .before .before .before .before .before .from2 .ensures)
-    (told _ _ _ _ _ _ (rw (c .before .before .before .before .before .before .before .before .before .reached-upper .ensures, c .before .before .before .before .before .before .before .before .before .before .from .ensures, c .before .before .before .before .before .before .reached-upper2 .ensures, c .before .before .before .before .before .before .before .from2 .ensures) at (c .before .before .before .before .before .if1 .left)))
+    ∙ rw (c .before .before .before .before .signed .ensures, c .before .before .before .before .before .before .before .before .before .before .counted-upper .ensures, c .before .before .before .before .before .before .before .before .before .before .before .alpha-at .ensures, c .before .before .before .before .before .before .before .from .ensures, c .before .before .before .before .before .before .before .before .ceiling-at .ensures)
+    (told _ _ _ _ _ _ (rw (c .before .before .before .before .before .before .before .before .before .before .counted-upper .ensures, c .before .before .before .before .before .before .before .before .before .before .before .alpha-at .ensures, c .before .before .before .before .before .before .reached-upper .ensures, c .before .before .before .before .before .before .before .from .ensures, c .before .before .before .before .before .before .before .before .ceiling-at .ensures) at (c .before .before .before .before .before .if1 .left)))
 
 pub settle-spec : {M : Type 1} → statement M
 settle-spec =
     tie.close
     (tie.spec
-    (λ c. search needs)
-    (λ c. search needs)
-    (λ c. search needs)
-    (λ c. search needs)
     (λ c κs. search needs)
     (λ c κs. search needs)
-    (λ c. search needs)
-    (λ c. search needs)
+    (λ c κs. search needs)
     (λ c κs. search needs)
     (λ c. search needs)
     (λ c. search needs)

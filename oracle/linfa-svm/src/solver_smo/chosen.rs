@@ -24,6 +24,7 @@ pub fn update(given: &Given) -> [f64; 2] {
         shrinking: false,
         budget: 1,
         floor: USUAL,
+        travelling: false,
     };
     let mut state = SolverState::new(
         given.weights.to_vec(),
