@@ -1,5 +1,6 @@
 //! Trains a sorter of short captions: the kernel counts the letters that two captions share.
-use altuliscia::{fit_c, Options, Problem, Refusal};
+use altuliscia::{fit_c, Options, Problem};
+use std::error::Error;
 
 const CAPTIONS: [(&str, bool); 6] = [
     ("NOT-AUS", true),
@@ -17,7 +18,7 @@ fn shared(a: &str, b: &str) -> f64 {
         .sum()
 }
 
-fn main() -> Result<(), Refusal> {
+fn main() -> Result<(), Box<dyn Error>> {
     let matrix: Vec<f64> = CAPTIONS
         .iter()
         .flat_map(|(a, _)| CAPTIONS.iter().map(move |(b, _)| shared(a, b)))
@@ -32,6 +33,9 @@ fn main() -> Result<(), Refusal> {
         ..Options::default()
     };
     let answer = fit_c(&problem, 1.0, 1.0, &options)?;
+    if let Some(why) = answer.unfit() {
+        return Err(format!("not to be released: {}", why).into());
+    }
 
     println!(
         "rho {:.4}, {:?} after {} steps",

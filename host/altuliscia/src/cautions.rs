@@ -1,5 +1,5 @@
 //! What is accepted, and yet is mostly a mistake or loses a promise: one place to ask before a training.
-use crate::{Problem, Training, MOST_SAMPLES};
+use crate::{Problem, Training, Tuned, MOST_SAMPLES};
 use std::fmt;
 
 /// What a fit takes without a word, and who trains should know.
@@ -31,6 +31,9 @@ pub enum Caution {
     },
     /// The ceilings aren't all the same, so that it isn't promised that a weight lies between 0 and its ceiling.
     UnequalCeilings,
+    /// Shrinking is on. 'Threshold' then speaks only of the samples still active, and objective and rho needn't be those of the weights
+    /// (docs/PROMISES.md, 'What to do with it').
+    Shrinking,
 }
 
 impl fmt::Display for Caution {
@@ -61,13 +64,16 @@ impl fmt::Display for Caution {
             Caution::UnequalCeilings => f.write_str(
                 "the ceilings differ: it isn't promised then that a weight lies between 0 and its ceiling",
             ),
+            Caution::Shrinking => f.write_str(
+                "shrinking is on: 'threshold' then speaks only of the samples still active, and objective and rho needn't be those of the weights; train with it off",
+            ),
         }
     }
 }
 
 impl Training<'_> {
     /// What to know before this is trained: nothing, where all is well. What a fit refuses is the fit's to tell. It takes about as long as to
-    /// read the matrix twice.
+    /// read the matrix twice. Of options it knows nothing: [`Training::cautions_tuned`] does.
     ///
     /// ```
     /// use altuliscia::{Caution, Problem, Training};
@@ -83,6 +89,25 @@ impl Training<'_> {
     pub fn cautions(&self) -> Vec<Caution> {
         let asked = [self.asymmetric(), self.infeasible(), self.unequal()];
         asked.into_iter().flatten().collect()
+    }
+
+    /// The same of a training with these options: [`Caution::Shrinking`] stands last, where shrinking is on and isn't refused.
+    ///
+    /// ```
+    /// use altuliscia::{Caution, Options, Problem, Training, Tuned};
+    ///
+    /// let problem = Problem { matrix: &[1.0, 0.5, 0.5, 1.0], labels: &[true, false] };
+    /// let training = Training::C { problem, cpos: 1.0, cneg: 1.0 };
+    /// let tuned = Tuned::from(Options { shrinking: true, ..Options::default() });
+    /// assert_eq!(training.cautions_tuned(&tuned), [Caution::Shrinking]);
+    /// assert_eq!(training.cautions_tuned(&Tuned::default()), []);
+    /// ```
+    pub fn cautions_tuned(&self, tuned: &Tuned) -> Vec<Caution> {
+        let refused = matches!(self, Training::CRetired { .. } | Training::Retired { .. });
+        let shrinks = tuned.options.shrinking && !refused;
+        let mut told = self.cautions();
+        told.extend(shrinks.then_some(Caution::Shrinking));
+        told
     }
 
     fn matrix(&self) -> &[f64] {

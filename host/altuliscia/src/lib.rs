@@ -9,7 +9,7 @@
 //!
 //! let problem = Problem { matrix: &[1.0, 0.0, 0.0, 1.0], labels: &[true, false] };
 //! let training = Training::C { problem, cpos: 1.0, cneg: 1.0 };
-//! assert_eq!(training.cautions(), []); // what to know before it is trained
+//! assert_eq!(training.cautions_tuned(&Tuned::default()), []); // what to know before it is trained
 //! let trained = training.train(&Tuned::default())?;
 //! assert_eq!(trained.unfit(), None); // why it is not to be released
 //! assert_eq!((trained.coefficients(), trained.rho()), (&[1.0, -1.0][..], 0.0));
@@ -25,7 +25,7 @@
 //! The [`decision`] on something new is the sum over the samples of coefficient times kernel value, less rho. From 0 on it is positive
 //! ([`Training::OneClass`]: of the class), else, NaN too, negative. The kernel value of a retired sample has no say. What is
 //! [`unfit`](Trained::unfit) is not to be released: its budget ran out, rho isn't finite, under nu r is 0 or not finite, or it has no
-//! support vector. [`Training::cautions`] tells beforehand what is accepted and mostly a mistake.
+//! support vector. [`Training::cautions_tuned`] tells beforehand what is accepted and mostly a mistake.
 //!
 //! [`fit_c`] and its fellows answer the same as an [`Answer`], without the coefficients: its weights, `home`, are signed by label under
 //! [`fit_c`], [`fit_c_retired`] and [`fit_nu`], but not under [`fit_general`] and [`fit_retired`].

@@ -100,7 +100,7 @@ impl Part {
             },
         };
         let trained = training.train(tuned)?;
-        let cautions = training.cautions().into_iter();
+        let cautions = training.cautions_tuned(tuned).into_iter();
         Ok(Pair {
             first,
             second,

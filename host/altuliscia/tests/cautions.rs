@@ -177,6 +177,55 @@ fn ceilings_that_differ_are_told() {
     }
 }
 
+/// It is told last, of every fit that takes it.
+#[test]
+fn shrinking_is_told() {
+    let l = lists(3, 5);
+    let matrix = apart();
+    let problem = Problem {
+        matrix: &matrix,
+        labels: &LABELS,
+    };
+    let (samples, retired) = (
+        OneClass {
+            n: 5,
+            matrix: &l.matrix,
+        },
+        &[false; 5][..],
+    );
+    let (general, nu) = (l.general(true), 0.5);
+    let mut on = Tuned::default();
+    on.options.shrinking = true;
+    #[rustfmt::skip]
+    let all = [
+        (c(problem, 1.0, 2.0), true),
+        (Training::Nu { problem, nu }, true),
+        (Training::OneClass { samples, nu }, true),
+        (Training::General(general), true),
+        (Training::CRetired { problem, cpos: 1.0, cneg: 1.0, retired }, false),
+        (Training::Retired { general, retired }, false),
+    ];
+    for (training, takes) in all {
+        let mut expected = training.cautions();
+        assert_eq!(training.cautions_tuned(&Tuned::default()), expected);
+        expected.extend(takes.then_some(Caution::Shrinking));
+        assert_eq!(training.cautions_tuned(&on), expected, "{:?}", training);
+        let refused = training.train(&on).err();
+        assert_eq!(refused, (!takes).then_some(Refusal::RetiredShrinking));
+    }
+    assert_eq!(c(problem, 1.0, 2.0).cautions_tuned(&on).len(), 3);
+    assert!(Caution::Shrinking
+        .to_string()
+        .starts_with("shrinking is on: "));
+    // A sorter keeps it with each pair.
+    let l = lists(3, 9);
+    let corpus = Corpus::new(&l.matrix, &[1, 2, 3, 1, 2, 3, 1, 2, 3]);
+    let sorter = Sorter::train(&corpus, Way::C(1.0), &on).unwrap();
+    for pair in sorter.pairs() {
+        assert_eq!(pair.cautions, [Caution::Shrinking]);
+    }
+}
+
 /// Lists of any length, and numbers of any kind: nothing panics, and the fit says what is wrong.
 #[test]
 fn what_is_refused_is_left_to_the_fit() {
