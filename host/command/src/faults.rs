@@ -17,8 +17,18 @@ fn limit() -> f64 {
 pub struct Judged {
     /// Where there is one, nothing is trained.
     pub faults: Vec<Trouble>,
-    /// What is trained all the same, and who trains should know.
+    /// What is trained all the same, and speaks against the answer: a model keeps it.
+    pub cautions: Vec<String>,
+    /// What else who trains should know, a line each.
     pub notes: Vec<String>,
+}
+
+impl Judged {
+    /// The lines for standard error.
+    pub fn lines(&self) -> Vec<String> {
+        let cautions = self.cautions.iter().map(|text| format!("note: {}", text));
+        cautions.chain(self.notes.iter().cloned()).collect()
+    }
 }
 
 /// Every fault, in the order of the refusals and by index, and what is wrong with the list of retired samples where refusal 12 would stand;
@@ -36,10 +46,7 @@ pub fn judged(
     };
     let mut faults = with_settings(given, settings, listed);
     faults.extend(own.faults);
-    Judged {
-        faults,
-        notes: own.notes,
-    }
+    Judged { faults, ..own }
 }
 
 /// Of more than two classes: what there is to tell of every pair, once, with the first pair that meets it; then the faults of the settings.
@@ -54,13 +61,13 @@ pub fn of_pairs(s: &Samples, settings: &Settings, costs: &[f64], listed: Vec<Tro
             let own = cautions(&pair, settings, ceilings);
             let faults = own.faults.into_iter().map(|fault| of_pair(fault, &named));
             last.faults.extend(faults);
-            // A note has its kind between its first two colons.
-            let new = own.notes.into_iter().filter(|note| {
-                let kind = note.split(':').nth(1).unwrap_or_default();
+            // A caution has its kind before its first colon.
+            let new = own.cautions.into_iter().filter(|caution| {
+                let kind = caution.split(':').next().unwrap_or_default();
                 seen.insert(kind.to_string())
             });
-            let new = new.map(|note| format!("{}, {}", note, named));
-            last.notes.extend(new);
+            let new = new.map(|caution| format!("{}, {}", caution, named));
+            last.cautions.extend(new);
         }
         let new = given.into_iter().filter(|fault| match fault {
             Trouble::Refused(_, Refusal::Samples) => true,
@@ -71,10 +78,7 @@ pub fn of_pairs(s: &Samples, settings: &Settings, costs: &[f64], listed: Vec<Tro
     }
     let mut faults = with_settings(all, settings, listed);
     faults.extend(last.faults);
-    Judged {
-        faults,
-        notes: last.notes,
-    }
+    Judged { faults, ..last }
 }
 
 /// A fault with its pair.
@@ -114,15 +118,15 @@ fn cautions(s: &Samples, settings: &Settings, ceilings: (f64, f64)) -> Judged {
                 entry,
                 mirrored,
                 count,
-            } => judged.notes.push(format!(
-                "note: the kernel isn't symmetric: serial {0} has {1} with serial {2}, but serial {2} has {3} with serial {0} (places that differ: {4}, none by more)",
+            } => judged.cautions.push(format!(
+                "the kernel isn't symmetric: serial {0} has {1} with serial {2}, but serial {2} has {3} with serial {0} (places that differ: {4}, none by more)",
                 s.serials[column], double(entry), s.serials[row], double(mirrored), count
             )),
-            Caution::UnequalCeilings => judged.notes.push(format!(
-                "note: the costs differ: label {} has {}, label {} has {}; it isn't promised then that every weight lies in 0..ceiling",
+            Caution::UnequalCeilings => judged.cautions.push(format!(
+                "the costs differ: label {} has {}, label {} has {}; it isn't promised then that every weight lies in 0..ceiling",
                 s.classes[0], double(ceilings.0), s.classes[1], double(ceilings.1)
             )),
-            other => judged.notes.push(format!("note: {}", other)),
+            other => judged.cautions.push(other.to_string()),
         }
     }
     judged

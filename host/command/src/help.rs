@@ -108,14 +108,16 @@ svm-train ends with, the options, and the exit reason. (threshold: no pair is le
 -h 1: among the samples still active; iterations: the budget ran out.) With --retired it also says
 who is retired, with --floor a floor that isn't the usual one, and --travelling where it is on. nSV
 counts the weights above 100*2^-52 in magnitude, and nBSV those of them that are at their ceiling or
-above it. Notes are told on standard error: a kernel that isn't symmetric, costs that differ,
---travelling where it has no say, what shrinking leaves out, weights that the Rust crate linfa-svm
-gives to others. With -q nothing else is told.
+above it. Notes are told on standard error. Cautions, which the model keeps: a kernel that isn't
+symmetric, costs that differ, that shrinking is on, weights above their ceilings. Others: an option
+that has no say, weights that the Rust crate linfa-svm gives to others. With -q nothing else is
+told.
 
 MODEL is what LIBSVM's svm-predict reads for a precomputed kernel. Where it isn't named it is
 FILE's name with .model, in this folder. Its weights are each sample's own (the home reading), all
 that aren't 0; where these are more than nSV, a line says how many and why. Behind them stand the
-options, who is retired, the exit reason and a hash of the samples, which `show` reads. It is
+options, who is retired, the exit reason, a hash of the samples and the cautions, which `show`
+reads. It is
 written whole or not at all, and replaces neither FILE nor the file of --retired nor one that is
 read-only. A retired sample isn't in it, and every other is called by its own serial number. Where
 what was trained isn't to be released, no model is written, and the exit status is 6.
@@ -204,9 +206,10 @@ pub const SHOW: &str = concat!(
 
 Says what MODEL has and what it records of its training: the version that wrote it, the options,
 who is retired, the exit reason, whether it is to be released, how many samples it was trained on,
-and their hash. A model that svm-train wrote, or altuliscia up to 1.5.0, has no record, which is
-said. A record that was changed or cut is refused, as by every command that reads a model. Where the
-model isn't to be released, the exit status is 6.
+their hash, and the cautions of `train`. A model that svm-train wrote, or altuliscia up to 1.5.0,
+has no record, which is said. A record that was changed or cut, or that contradicts itself, is
+refused, as by every command that reads a model. Where the model isn't to be released, the exit
+status is 6.
 
 With FILE beside it, says whether these are the samples that it was trained on, or, where FILE has
 more labels, those of its pair; else the exit status is 7. The hash is SHA-256 over n in eight
@@ -246,9 +249,9 @@ What `show` tells of it is told on standard error. It takes only --pair, --sampl
               against is the other label, ceiling a number, mark at, above or retired. What isn't
               known is empty
   --json      an object with file, model (true or false), version, options, eps, retired, release
-              (true or false), unfit (why not), trainings (pair, rho and exit of each) and weights,
-              a list with the fields of --csv but eps. What isn't known is null, and what isn't
-              finite is a string
+              (true or false), unfit (why not), cautions (a list), trainings (pair, rho and exit of
+              each) and weights, a list with the fields of --csv but eps. What isn't known is null,
+              and what isn't finite is a string
 
 ",
     options!(),
@@ -295,9 +298,10 @@ pub const CHECK: &str = concat!(
 Reads FILE and names all that the library would refuse, in FILE and in the options, a line each on
 standard output: where it stands, what must be, and the refusal's number. What is wrong with the
 list of --retired is named, too, a serial number of two lines or of none, and a nu that can't be
-met. Notes are told on standard error: a kernel that isn't symmetric, costs that differ,
---travelling where it has no say. Refusal 11 can't be known without training. Where FILE has more
-than two labels, every pair is looked at, and what several would meet is named once, with the first.
+met. Notes are told on standard error: a kernel that isn't symmetric, costs that differ, that
+shrinking is on, an option that has no say. Refusal 11 can't be known without training. Where FILE
+has more than two labels, every pair is looked at, and what several would meet is named once, with
+the first.
 Nothing is trained and no file is written. The exit status is that of the first line.
 
 ",

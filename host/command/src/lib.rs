@@ -103,9 +103,8 @@ fn of_one_training(
     let settings = &call.settings;
     let mut judged = faults::judged(samples, settings, ceilings, listed);
     judged.faults.splice(0..0, whole.wrong.iter().cloned());
-    let both = [ceilings.0, ceilings.1];
-    judged.notes.extend(report::of_travelling(settings, &both));
-    let mut notes = judged.stand(call, samples, out, err)?;
+    judged.of_settings(settings, &[ceilings.0, ceilings.1]);
+    let mut judged = judged.stand(call, samples, out, err)?;
     if call.command == Command::Check {
         return Ok(());
     }
@@ -123,17 +122,20 @@ fn of_one_training(
             progress::shown(err, terminal, "training", trained)?
         }
     };
-    notes.extend(report::of_answer(samples, settings, &answer));
-    notes.extend(report::of_shrinking(settings));
+    let above = report::of_ceilings(samples, settings, ceilings, &answer);
+    judged.cautions.extend(above);
+    let parted = report::of_answer(samples, settings, &answer);
+    judged.notes.extend(parted);
     let told = Told {
         call,
         samples,
         ceilings,
         answer: &answer,
         whole: &whole,
+        judged: &judged,
     };
     told.out(finger, captions, out)?;
-    told.err(notes, err);
+    told.err(err);
     told.ended()
 }
 
@@ -153,6 +155,7 @@ struct Told<'a> {
     ceilings: (f64, f64),
     answer: &'a Answer,
     whole: &'a Whole,
+    judged: &'a Judged,
 }
 
 impl Told<'_> {
@@ -172,6 +175,7 @@ impl Told<'_> {
         match self.call.command {
             Command::Weights => {
                 let mut list = list::List::of(s, settings, ceilings, answer);
+                list.cautions = Some(self.judged.cautions.clone());
                 list.captioned(&captions.unwrap_or_default());
                 if let Some(finger) = finger {
                     list.rows.retain(|row| row.sample == Some(finger.sample));
@@ -181,7 +185,8 @@ impl Told<'_> {
             Command::Train => {
                 let unfit = report::unfit(settings, answer);
                 if unfit.is_none() || settings.anyway {
-                    let record = Record::of(s, settings, &[answer.reason], unfit);
+                    let cautions = &self.judged.cautions;
+                    let record = Record::of(s, settings, &[answer.reason], unfit, cautions);
                     let text = model::text(s, settings, answer);
                     save::whole(&self.call.model_path(), &record.behind(&text))?;
                 }
@@ -195,7 +200,7 @@ impl Told<'_> {
     }
 
     /// How the run ended, where no summary has told it, and the notes.
-    fn err(&self, notes: Vec<String>, err: &mut (dyn Write + Send)) {
+    fn err(&self, err: &mut (dyn Write + Send)) {
         let (s, settings) = (self.samples, &self.call.settings);
         let mut lines = Vec::new();
         if self.call.command != Command::Train && !settings.quiet {
@@ -204,7 +209,7 @@ impl Told<'_> {
                 lines.insert(0, format!("pair: {} {}", s.classes[0], s.classes[1]));
             }
         }
-        lines.extend(notes);
+        lines.extend(self.judged.lines());
         noted(lines, err);
     }
 
@@ -233,22 +238,29 @@ fn noted(lines: Vec<String>, err: &mut (dyn Write + Send)) {
 }
 
 impl Judged {
-    /// What a check tells, and else the first fault. The notes are handed back; a check has told them.
+    /// What the settings alone have to tell, by the ceilings of the classes.
+    fn of_settings(&mut self, settings: &Settings, ceilings: &[f64]) {
+        self.cautions.extend(report::of_shrinking(settings));
+        self.notes.extend(report::of_travelling(settings, ceilings));
+    }
+
+    /// What a check tells, and else the first fault. The rest is handed back; a check has told it.
     fn stand(
         self,
         call: &Call,
         s: &Samples,
         out: &mut dyn Write,
         err: &mut (dyn Write + Send),
-    ) -> Result<Vec<String>, Trouble> {
+    ) -> Result<Judged, Trouble> {
         if call.command == Command::Check {
+            let lines = self.lines();
             let done = checked(s, &call.settings, self.faults, out);
-            noted(self.notes, err);
-            return done.map(|()| Vec::new());
+            noted(lines, err);
+            return done.map(|()| Judged::default());
         }
-        match self.faults.into_iter().next() {
-            Some(first) => Err(first),
-            None => Ok(self.notes),
+        match self.faults.first() {
+            Some(first) => Err(first.clone()),
+            None => Ok(self),
         }
     }
 }

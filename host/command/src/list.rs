@@ -34,6 +34,8 @@ pub struct List {
     /// Nothing where neither is known.
     pub release: Option<bool>,
     pub unfit: Option<String>,
+    /// What who trained was told to look at.
+    pub cautions: Option<Vec<String>>,
     /// The name of each training, its rho and why it ended.
     pub trainings: Vec<(String, f64, Option<String>)>,
     pub rows: Vec<Row>,
@@ -74,6 +76,7 @@ impl List {
             retired: Some(gone.map(|k| s.serials[k]).collect()),
             release: Some(unfit.is_none()),
             unfit,
+            cautions: None,
             trainings: vec![(pair.join(","), a.rho, Some(exit.to_string()))],
             rows: (0..s.n).map(row).collect(),
         }
@@ -107,6 +110,7 @@ impl List {
                 (None, None) => None,
             },
             unfit,
+            cautions: record.map(|r| r.cautions.clone()),
             trainings: trainings.map(|(k, (n, rho))| (n, rho, exit(k))).collect(),
             rows,
         }
@@ -231,6 +235,10 @@ impl List {
         let retired = self.retired.as_ref().map(|list| format!("{:?}", list));
         let release = self.release.map(|yes| yes.to_string());
         let or_null = |word: Option<String>| word.unwrap_or_else(|| "null".to_string());
+        let cautions = self.cautions.as_ref().map(|all| {
+            let all: Vec<String> = all.iter().map(|one| text::json(one)).collect();
+            format!("[{}]", all.join(", "))
+        });
         let trainings: Vec<String> = self.trainings.iter().map(training).collect();
         let rows: Vec<String> = self.rows.iter().map(Row::json).collect();
         let lines = [
@@ -242,6 +250,7 @@ impl List {
             ("retired", or_null(retired)),
             ("release", or_null(release)),
             ("unfit", string(&self.unfit)),
+            ("cautions", or_null(cautions)),
             ("trainings", format!("[{}]", trainings.join(", "))),
             ("weights", format!("[\n{}\n  ]", rows.join(",\n"))),
         ];

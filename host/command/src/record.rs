@@ -20,18 +20,22 @@ pub struct Record {
     /// How many samples were trained on, retired ones too, and their hash.
     pub samples: u64,
     pub hash: String,
+    /// What its training was told to look at, a line each.
+    pub cautions: Vec<String>,
 }
 
-/// The names of the lines, in their order. The last has the sum of all lines of the model above it.
-const NAMES: [&str; 7] = [
+/// The names of the lines that every record has, in their order. Behind them stand the cautions, then the sum of all lines of the model
+/// above it.
+const NAMES: [&str; 6] = [
     "altuliscia",
     "options",
     "retired",
     "exit",
     "release",
     "samples",
-    "sum",
 ];
+const CAUTION: &str = "# caution ";
+const SUM: &str = "# sum ";
 
 impl Record {
     /// Of a training of these samples that ended so.
@@ -40,6 +44,7 @@ impl Record {
         settings: &Settings,
         ends: &[ExitReason],
         unfit: Option<String>,
+        cautions: &[String],
     ) -> Record {
         let gone = (0..s.n).filter(|k| s.retired[*k]);
         let word = |end: &ExitReason| match end {
@@ -54,6 +59,7 @@ impl Record {
             unfit,
             samples: s.n as u64,
             hash: hash(s),
+            cautions: cautions.to_vec(),
         }
     }
 
@@ -75,37 +81,44 @@ impl Record {
             format!("{} {}", self.samples, self.hash),
         ];
         let lines = NAMES.iter().zip(words);
-        let lines: String = lines.map(|(n, w)| format!("# {} {}\n", n, w)).collect();
-        let text = format!("{}{}", model, lines);
-        format!("{}# sum {}\n", text, sum(text.lines()))
+        let lines = lines.map(|(n, w)| format!("# {} {}\n", n, w));
+        let cautions = self.cautions.iter();
+        let cautions = cautions.map(|text| format!("{}{}\n", CAUTION, text));
+        let text = format!("{}{}", model, lines.chain(cautions).collect::<String>());
+        format!("{}{}{}\n", text, SUM, sum(text.lines()))
     }
 
     /// The record in a model's lines from the one of that number on, counted from 0. An error has its line, counted from 1.
     pub fn read(lines: &[&str], from: usize) -> Result<Record, (usize, String)> {
         let mut words = Vec::new();
         for (k, name) in NAMES.iter().enumerate() {
-            let at = from + k;
-            let line = lines.get(at).ok_or_else(|| {
-                let told = format!("the record ends before its line '# {}'", name);
-                (at, told)
-            })?;
-            let word = line.strip_prefix(&format!("# {} ", name));
-            words.push(word.ok_or_else(|| {
-                let told = format!("'{}' stands where '# {} ..' should", line, name);
-                (at + 1, told)
-            })?);
+            words.push(word(lines, from + k, &format!("# {} ", name))?);
         }
-        let end = from + NAMES.len();
-        if lines.len() > end {
+        let behind = lines[from + NAMES.len()..].iter();
+        let cautions = behind.map_while(|line| line.strip_prefix(CAUTION));
+        let cautions: Vec<String> = cautions.map(str::to_string).collect();
+        let end = from + NAMES.len() + cautions.len();
+        let found = word(lines, end, SUM)?;
+        if lines.len() > end + 1 {
             let told = "something stands behind the record, which ends with its sum";
+            return Err((end + 2, told.to_string()));
+        }
+        if found != sum(lines[..end].iter().copied()) {
+            let told = "the sum isn't that of the lines above it: they were changed since they were written";
             return Err((end + 1, told.to_string()));
         }
-        if words[6] != sum(lines[..end - 1].iter().copied()) {
-            let told = "the sum isn't that of the lines above it: they were changed since they were written";
-            return Err((end, told.to_string()));
+        let record = parsed(&words).map(|record| Record { cautions, ..record });
+        let record = record.ok_or_else(|| (from + 1, "this record can't be read".to_string()))?;
+        match record.exits.iter().find(|end| *end != "threshold") {
+            Some(end) if record.unfit.is_none() => {
+                let told = format!(
+                    "the record contradicts itself: it says 'exit {}', and that it is to be released",
+                    end
+                );
+                Err((from + 4, told))
+            }
+            _ => Ok(record),
         }
-        let record = parsed(&words);
-        record.ok_or_else(|| (from + 1, "this record can't be read".to_string()))
     }
 
     /// The options once more, as a call has them.
@@ -114,7 +127,19 @@ impl Record {
     }
 }
 
-/// A record of its lines' words.
+/// What stands behind a line's name, in the line of that number, counted from 0.
+fn word<'a>(lines: &[&'a str], at: usize, name: &str) -> Result<&'a str, (usize, String)> {
+    let line = lines.get(at).ok_or_else(|| {
+        let told = format!("the record ends before its line '{}'", name.trim_end());
+        (at, told)
+    })?;
+    line.strip_prefix(name).ok_or_else(|| {
+        let told = format!("'{}' stands where '{}..' should", line, name);
+        (at + 1, told)
+    })
+}
+
+/// A record of its lines' words, without cautions.
 fn parsed(words: &[&str]) -> Option<Record> {
     let (samples, hash) = words[5].split_once(' ')?;
     let retired = match words[2] {
@@ -136,6 +161,7 @@ fn parsed(words: &[&str]) -> Option<Record> {
         unfit,
         samples: samples.parse().ok()?,
         hash: hash.to_string(),
+        cautions: Vec::new(),
     };
     record.settings().map(|_| record)
 }
@@ -195,4 +221,47 @@ pub fn hash(s: &Samples) -> String {
         hash.add(&serial.to_le_bytes());
     }
     hash.digits()
+}
+
+#[cfg(test)]
+mod tests {
+    use super::*;
+
+    /// A record with a sum of its own, read again.
+    fn read(exits: &[&str], unfit: Option<&str>) -> Result<Record, (usize, String)> {
+        let record = Record {
+            version: "1.6.0".to_string(),
+            options: "-s 0 -c 1.0".to_string(),
+            retired: Vec::new(),
+            exits: exits.iter().map(|end| end.to_string()).collect(),
+            unfit: unfit.map(str::to_string),
+            samples: 2,
+            hash: "0".to_string(),
+            cautions: vec!["a: b".to_string(), "c".to_string()],
+        };
+        let text = record.behind("SV\n");
+        let lines: Vec<&str> = text.lines().collect();
+        let found = Record::read(&lines, 1)?;
+        assert_eq!(found, record);
+        Ok(found)
+    }
+
+    #[test]
+    fn a_record_that_contradicts_itself_is_refused() {
+        for (exits, unfit, good) in [
+            (&["threshold"][..], None, true),
+            (&["threshold", "threshold"], Some("rho is nan"), true),
+            (&["threshold", "iterations"], Some("pair 1 3"), true),
+            (&["iterations"], None, false),
+            (&["threshold", "iterations"], None, false),
+            (&["other"], None, false),
+        ] {
+            let found = read(exits, unfit).err();
+            let told = |(line, text): (usize, String)| {
+                assert!(text.starts_with("the record contradicts itself: it says 'exit "));
+                line
+            };
+            assert_eq!(found.map(told), (!good).then_some(5), "{:?}", exits);
+        }
+    }
 }

@@ -220,8 +220,27 @@ pub fn of_travelling(settings: &Settings, ceilings: &[f64]) -> Option<String> {
     settings.travelling.then(note)
 }
 
-/// The note on shrinking, where it is on.
+/// The caution of shrinking, where it is on. With --retired it is refused.
 pub fn of_shrinking(settings: &Settings) -> Option<String> {
-    let note = "note: with -h 1 'threshold' speaks only of the samples still active, and obj and rho needn't be those of these weights; train with -h 0";
-    settings.shrinking.then(|| note.to_string())
+    let told = "shrinking is on: with -h 1 'threshold' speaks only of the samples still active, and obj and rho needn't be those of these weights; train with -h 0";
+    let on = settings.shrinking && settings.retired.is_none();
+    on.then(|| told.to_string())
+}
+
+/// The caution of weights above their ceilings, where there are some.
+pub fn of_ceilings(
+    s: &Samples,
+    settings: &Settings,
+    ceilings: (f64, f64),
+    a: &Answer,
+) -> Option<String> {
+    let above = (0..s.n).filter(|k| mark(s, settings.fit, ceilings, a, *k) == Some("above"));
+    let serials: Vec<String> = above.map(|k| s.serials[k].to_string()).collect();
+    let told = || {
+        format!(
+            "a weight is above its ceiling: that of serial {}",
+            serials.join(",")
+        )
+    };
+    (!serials.is_empty()).then(told)
 }

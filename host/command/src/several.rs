@@ -23,6 +23,8 @@ pub struct Trained {
     spent: Vec<String>,
     /// The pairs that aren't to be released, each with its reason.
     unfit: Vec<String>,
+    /// The weights above their ceilings, with their pairs.
+    above: Vec<String>,
 }
 
 impl Trained {
@@ -74,24 +76,25 @@ pub fn carried_out(
     }
     let mut judged = faults::of_pairs(s, settings, costs, listed);
     judged.faults.splice(0..0, whole.wrong);
-    judged.notes.extend(report::of_travelling(settings, costs));
-    let mut notes = judged.stand(call, s, out, err)?;
+    judged.of_settings(settings, costs);
+    let mut judged = judged.stand(call, s, out, err)?;
     if call.command == Command::Check {
         return Ok(());
     }
     let trained = progress::in_parts(err, terminal, |now| trained(s, settings, costs, now))?;
+    judged.cautions.extend(trained.above.iter().cloned());
+    judged.notes.extend(trained.notes());
     let unfit = Some(trained.unfit.join("; ")).filter(|why| !why.is_empty());
     if unfit.is_none() || settings.anyway {
-        let record = Record::of(s, settings, &trained.ends, unfit.clone());
+        let (ends, cautions) = (&trained.ends, &judged.cautions);
+        let record = Record::of(s, settings, ends, unfit.clone(), cautions);
         let text = model::of_several(s, settings.fit, &trained);
         save::whole(&call.model_path(), &record.behind(&text))?;
     }
     if !settings.quiet {
         tell(out, &summary(s, settings, &trained))?;
     }
-    notes.extend(trained.notes());
-    notes.extend(report::of_shrinking(settings));
-    noted(notes, err);
+    noted(judged.lines(), err);
     match unfit {
         Some(why) => Err(crate::unfit(call, why)),
         None => Ok(()),
@@ -125,6 +128,7 @@ fn trained(
         ends: Vec::new(),
         spent: Vec::new(),
         unfit: Vec::new(),
+        above: Vec::new(),
     };
     for (k, (first, second)) in places(classes).enumerate() {
         let labels = format!("{} {}", s.classes[first], s.classes[second]);
@@ -138,6 +142,9 @@ fn trained(
         let unfit = report::unfit(settings, &answer);
         let unfit = unfit.map(|why| format!("pair {}: {}", labels, why));
         trained.unfit.extend(unfit);
+        let above = report::of_ceilings(&pair, settings, ceilings, &answer);
+        let above = above.map(|told| format!("{}, in the pair {}", told, labels));
+        trained.above.extend(above);
         if answer.reason == ExitReason::Iterations {
             trained.spent.push(labels);
         }

@@ -65,7 +65,7 @@ fn recorded(model: &Model) -> Vec<String> {
         }
     };
     let retired: Vec<String> = record.retired.iter().map(u64::to_string).collect();
-    vec![
+    let mut lines = vec![
         format!("written by: altuliscia {}", record.version),
         format!("options: {}", record.options),
         match retired.is_empty() {
@@ -74,14 +74,19 @@ fn recorded(model: &Model) -> Vec<String> {
         },
         format!("exit reason: {}", exit(model, record)),
         match &record.unfit {
-            None => "to be released: nothing speaks against it".to_string(),
+            None if record.cautions.is_empty() => {
+                "to be released: nothing speaks against it".to_string()
+            }
+            None => "to be released: with caution, see below".to_string(),
             Some(why) => format!("to be released: no: {}", why),
         },
         format!(
             "trained on: {} samples, sha256 {}",
             record.samples, record.hash
         ),
-    ]
+    ];
+    lines.extend(record.cautions.iter().map(|c| format!("caution: {}", c)));
+    lines
 }
 
 /// Why its trainings ended.
@@ -112,6 +117,7 @@ fn compared(model: &Model, file: &str) -> Result<Result<String, String>, Trouble
             )))
         }
     };
+    let all = samples.n;
     let samples = match narrowed(model, samples) {
         Some(samples) => samples,
         None => {
@@ -121,8 +127,12 @@ fn compared(model: &Model, file: &str) -> Result<Result<String, String>, Trouble
             )))
         }
     };
-    let found = record::hash(&samples);
+    let (found, fewer) = (record::hash(&samples), samples.n < all);
     Ok(match found == record.hash {
+        true if fewer => Ok(format!(
+            "{}: its {} samples of the labels {} and {} are what it was trained on, and no others of it",
+            name, samples.n, model.labels[0], model.labels[1]
+        )),
         true => Ok(format!("{}: this is what it was trained on", name)),
         false => Err(format!(
             "{} isn't what {} was trained on: {} samples, sha256 {}",

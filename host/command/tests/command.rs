@@ -172,7 +172,7 @@ fn a_weight_above_its_ceiling_is_told() {
     assert!(help.contains(kept));
 }
 
-const ON: &str = "note: with -h 1 'threshold' speaks only of the samples still active, and obj and rho needn't be those of these weights; train with -h 0\n";
+const ON: &str = "note: shrinking is on: with -h 1 'threshold' speaks only of the samples still active, and obj and rho needn't be those of these weights; train with -h 0\n";
 
 #[test]
 fn with_shrinking_on_a_note_says_what_it_leaves_out() {
@@ -229,11 +229,12 @@ fn how_a_lists_run_ended_is_told_beside_it() {
     let costs = "note: the costs differ: label 1 has 1.0, label -1 has 2.0; it isn't promised then that every weight lies in 0..ceiling\n";
     let options = "options: -s 0 -c 1.0 -w-1 2.0 -e 0.001 -h 0 --budget 10000000 --floor 1e-10\n";
     let start = "exit reason: threshold\nrho = 0.9999433318247627\n";
-    assert_eq!(err, [start, options, costs].concat());
+    let above = "note: a weight is above its ceiling: that of serial 4\n";
+    assert_eq!(err, [start, options, costs, above].concat());
     let (status, list, err) = whole(&["weights", "-h", "1", "-w-1", "2", &path]);
     let start = "exit reason: threshold\nrho = nan\noptions: ";
     let end = "altuliscia: not to be released: rho is nan, so everything is sorted into one and the same class; train with -h 0\n";
-    let end = [costs, ON, end].concat();
+    let end = [costs, ON, above, end].concat();
     assert!(err.starts_with(start) && err.ends_with(&end), "{}", err);
     assert_eq!(status, 6);
     let help = told("weights --help", "", "").unwrap();

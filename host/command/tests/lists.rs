@@ -70,6 +70,7 @@ fn json_has_every_field() {
   "retired": [],
   "release": true,
   "unfit": null,
+  "cautions": [],
   "trainings": [{{"pair": "7,3", "rho": 0.0, "exit": "threshold"}}],
   "weights": [
     {{"sample": 0, "serial": 1, "label": 7, "against": 3, "weight": 1.0, "ceiling": 1.0, "mark": "at", "linfa_svm": 1.0, "caption": "say \"a\", b\\c"}},

@@ -1,10 +1,12 @@
 //! What a model records of its training, and what reads it back.
 mod bare;
 mod common;
+mod over;
 mod whole;
 
 use bare::bare;
 use common::{both, file, folder, own, told, SMALL};
+use over::OVER;
 use std::fs;
 use whole::whole;
 
@@ -15,8 +17,9 @@ fn record(model: &str) -> Vec<String> {
     let text = fs::read_to_string(model).unwrap();
     let lines = text.lines().skip_while(|l| !l.starts_with('#'));
     let lines: Vec<String> = lines.map(str::to_string).collect();
-    assert!(lines[6].starts_with("# sum ") && lines.len() == 7);
-    lines[..6].to_vec()
+    let (sum, above) = lines.split_last().unwrap();
+    assert!(sum.starts_with("# sum ") && above.len() >= 6);
+    above.to_vec()
 }
 
 /// The hash of the small problem was computed elsewhere, over the bytes that `show --help` names.
@@ -146,10 +149,65 @@ fn a_model_is_shown_in_words() {
     assert!(status == 6 && out.contains(spent), "{}", out);
 }
 
+const SHRINKING: &str = "shrinking is on: with -h 1 'threshold' speaks only of the samples still active, and obj and rho needn't be those of these weights; train with -h 0";
+
+/// What was told of a training is kept by its model, and told of that, too.
+#[test]
+fn a_model_keeps_the_cautions_of_its_training() {
+    let f = folder("record-cautions");
+    let model = file(&f, "model", b"old");
+    let costs = "the costs differ: label 1 has 1.0, label -1 has 2.0; it isn't promised then that every weight lies in 0..ceiling";
+    let above = "a weight is above its ceiling: that of serial 4";
+    let skew = "the kernel isn't symmetric: serial 1 has 0.0 with serial 2, but serial 2 has 0.5 with serial 1 (places that differ: 1, none by more)";
+    let panel = "the costs differ: label 1 has 2.0, label 2 has 1.0; it isn't promised then that every weight lies in 0..ceiling, in the pair 1 2";
+    for (options, data, cautions) in [
+        ("", SMALL.to_string(), &[][..]),
+        ("-h 1", SMALL.to_string(), &[SHRINKING]),
+        ("-w-1 2", OVER.to_string(), &[costs, above]),
+        ("", SMALL.replace("1:0 ", "1:0.5 "), &[skew]),
+        ("-h 1 -w1 2", PANEL.to_string(), &[panel, SHRINKING]),
+    ] {
+        let path = file(&f, "a", data.as_bytes());
+        let line = format!("train -q {} FILE MODEL", options);
+        let (_, err) = both(&line, &path, &model).unwrap();
+        let lines = |start: &str| -> Vec<String> {
+            cautions.iter().map(|c| format!("{}{}", start, c)).collect()
+        };
+        for note in lines("note: ") {
+            assert!(err.contains(&(note + "\n")), "{}", err);
+        }
+        assert_eq!(record(&model)[6..], lines("# caution "));
+        let shown = told("show MODEL", "", &model).unwrap();
+        let kept: Vec<&str> = shown.lines().filter(|l| l.starts_with("caution")).collect();
+        assert_eq!(kept, lines("caution: "));
+        let silent = shown.contains("to be released: nothing speaks against it\n");
+        assert_eq!(silent, cautions.is_empty());
+        assert!(silent || shown.contains("to be released: with caution, see below\n"));
+        let quoted: Vec<String> = cautions.iter().map(|c| format!("{:?}", c)).collect();
+        let field = format!("  \"cautions\": [{}],\n", quoted.join(", "));
+        let json = told("weights --json MODEL", "", &model).unwrap();
+        assert!(json.contains(&field), "{}", json);
+        if data != PANEL {
+            let line = format!("weights --json {} FILE", options);
+            assert!(told(&line, &path, "").unwrap().contains(&field));
+        }
+        let (_, err) = both(&format!("check {} FILE", options), &path, "").unwrap();
+        let after = cautions.contains(&above);
+        assert_eq!(err.lines().count(), cautions.len() - usize::from(after));
+        // svm-train's model says nothing of it.
+        let text = fs::read_to_string(&model).unwrap();
+        let old = file(&f, "old", bare(&text).as_bytes());
+        let json = told("weights --json MODEL", "", &old).unwrap();
+        assert!(json.contains("  \"cautions\": null,\n"));
+    }
+}
+
 /// Whether `show` says that a model was trained on a file.
 fn agrees(model: &str, file: &str) -> bool {
     let (status, out, err) = whole(&["show", model, file]);
-    let said = out.ends_with(&format!("{}: this is what it was trained on\n", file));
+    let last = out.lines().last().unwrap_or_default();
+    let said = last == format!("{}: this is what it was trained on", file)
+        || last == format!("{}: its 8 samples of the labels 1 and 3 are what it was trained on, and no others of it", file);
     assert_eq!(said, status == 0, "{}", out);
     assert!(status == 0 || status == 7 && !err.is_empty(), "{}", err);
     said
@@ -206,6 +264,10 @@ fn a_model_of_other_classes_is_compared_with_a_file() {
             "{}",
             options
         );
+        // A pair is of some of the samples only.
+        let shown = told("show MODEL FILE", &panel, &model).unwrap();
+        let flatly = shown.ends_with(": this is what it was trained on\n");
+        assert_eq!(flatly, !options.contains("--pair"), "{}", shown);
         let other = PANEL.replace("1 0:1 1:6", "1 0:1 1:7");
         assert!(!agrees(&model, &file(&f, "other", other.as_bytes())));
     }
@@ -308,7 +370,7 @@ fn the_page_shows_what_is_written() {
     let json = told("weights --json FILE", &path, "").unwrap();
     let names = json.lines().filter_map(|line| line.strip_prefix("  \""));
     let names: Vec<&str> = names.map(|line| line.split('"').next().unwrap()).collect();
-    assert_eq!(names.len(), 10);
+    assert_eq!(names.len(), 11);
     for name in names {
         assert!(page.contains(&format!("`{}`", name)), "{}", name);
     }

@@ -519,9 +519,9 @@ fn what_is_not_well_is_told_with_its_pair() {
     assert!(status == 6 && err.contains(reason), "{}", err);
     // The note on shrinking stands once.
     let (_, err) = both("train -c 0.01 -h 1 FILE MODEL", &path, "/dev/null").unwrap();
-    assert_eq!(err.matches("note: with -h 1").count(), 1);
+    assert_eq!(err.matches("note: shrinking is on: ").count(), 1);
     let (_, err) = both("train -q -c 0.01 -h 1 FILE MODEL", &path, "/dev/null").unwrap();
-    assert_eq!(err.matches("note: with -h 1").count(), 1);
+    assert_eq!(err.matches("note: shrinking is on: ").count(), 1);
     let summary = told("train --floor 1e-12 FILE MODEL", &path, "/dev/null").unwrap();
     assert_eq!(summary.matches("\nfloor = 1e-12\noptions: ").count(), 1);
 }
