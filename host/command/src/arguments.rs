@@ -2,6 +2,7 @@
 use crate::problem::{self, Samples};
 use crate::{help, Trouble};
 use altuliscia::{MOST_PASSES, USUAL_FLOOR};
+use std::collections::BTreeSet;
 use std::num::IntErrorKind;
 use std::str::FromStr;
 
@@ -111,6 +112,33 @@ impl Settings {
     /// Whether linfa-svm trains so, too: it has one floor, and its ceilings don't travel.
     pub fn as_linfa_svm(&self) -> bool {
         self.floor == USUAL_FLOOR && !self.travelling
+    }
+
+    /// The notes on options that have no say beside -s, and on those that are there more than once.
+    pub fn idle(&self) -> Vec<String> {
+        let all: BTreeSet<&String> = self.given.iter().collect();
+        let factor = |name: &str| name.starts_with("-w");
+        let note = |name: &&String| {
+            let (no_say, fit) = match self.fit {
+                Fit::C => (*name == "-n", 0),
+                Fit::Nu => (*name == "-c" || factor(name), 1),
+                Fit::OneClass => (*name == "-c" || factor(name), 2),
+            };
+            let times = self.given.iter().filter(|given| given == name).count();
+            match times > 1 && has_value(name) {
+                _ if no_say => Some(format!("note: {} has no say with -s {}", name, fit)),
+                true if factor(name) => Some(format!(
+                    "note: {} is there more than once: each of them multiplies the cost",
+                    name
+                )),
+                true => Some(format!(
+                    "note: {} is there more than once: the last one counts",
+                    name
+                )),
+                false => None,
+            }
+        };
+        all.iter().filter_map(note).collect()
     }
 
     /// The cost of a label.

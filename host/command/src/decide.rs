@@ -2,8 +2,9 @@
 use crate::arguments::{Form, Sorting};
 use crate::list::Field;
 use crate::model::double;
+use crate::problem::whole;
 use crate::saved::Model;
-use crate::sort::{accuracy, captions, notes, Caption};
+use crate::sort::{accuracy, captions, notes, unrecorded, Caption};
 use crate::sorter::Sorter;
 use crate::{noted, progress, tell, text, Trouble};
 use std::io::Write;
@@ -42,6 +43,7 @@ pub fn carried_out(
     )?;
     let mut lines = notes(&model, decided.iter().map(|d| &d.caption));
     if !asked.quiet {
+        lines.extend(unrecorded(&model));
         let right = |d: &Decided| Some(d.caption.label? == d.sorted);
         lines.extend(accuracy(decided.iter().map(right)));
     }
@@ -108,11 +110,19 @@ const FIELDS: [&str; 5] = ["line", "serial", "label", "sorted", "finite"];
 fn fields(d: &Decided) -> [Field; 5] {
     [
         Field::Whole(Some(d.caption.line as i64)),
-        Field::Text(Some(d.caption.serial.clone())),
+        serial(&d.caption.serial),
         Field::Whole(d.caption.label.map(i64::from)),
         Field::Whole(Some(i64::from(d.sorted))),
         Field::Flag(d.caption.wild.is_none()),
     ]
+}
+
+/// A serial number, which may be any number that a file has there.
+fn serial(word: &str) -> Field {
+    match whole(word) {
+        Some(number) => Field::Whole(Some(i64::from(number))),
+        None => Field::Double(word.parse().ok()),
+    }
 }
 
 fn csv(model: &Model, decided: &[Decided]) -> String {

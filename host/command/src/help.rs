@@ -8,8 +8,9 @@ macro_rules! statuses {
         "Exit status: 0 done, 2 the words make no sense, 3 a file can't be read, or holds no problem, model,
 list of serial numbers or captions, 4 something can't be written, 5 a trail or a decision isn't what
 the library answers, which is a fault of this program, 6 it was done, but what was trained isn't to
-be released, 7 a model doesn't say that it was trained on FILE, 10 + N the library's refusal N (11
-to 24). What was wrong is told on standard error.
+be released (`train`, `weights`, `trail` and `show`; `sort` and `decide` only note it), 7 a model
+doesn't say that it was trained on FILE, 10 + N the library's refusal N (11 to 24). What was wrong
+is told on standard error.
 
 Not to be released is what ended since its budget ran out, what has a rho that isn't finite or with
 -s 1 an r that is 0 or not finite, and what has no weight above 100*2^-52 in magnitude
@@ -29,7 +30,7 @@ The label is a whole number, serial is the sample's own number from 1 on, and K(
 value with the sample of number j; every value is written out, zeros too. Every j has one line, in
 any order. Or FILE has the library's own bytes (docs/BYTES.md). FILE may be -, standard input. At
 most 512 samples are trained. The label that is seen first is the first class; of -1 and +1, where
-there are no others, it is always +1, as in LIBSVM.
+there are no others, it is always +1, as in LIBSVM. No file is read that has more than 2^30 bytes.
 
 Options, named as svm-train's where they mean the same. -c10 is -c 10, --floor=1e-12 is
 --floor 1e-12, and -- ends the options:
@@ -120,7 +121,8 @@ options, who is retired, the exit reason, a hash of the samples and the cautions
 reads. It is
 written whole or not at all, and replaces neither FILE nor the file of --retired nor one that is
 read-only. A retired sample isn't in it, and every other is called by its own serial number. Where
-what was trained isn't to be released, no model is written, and the exit status is 6.
+what was trained isn't to be released, no model is written, an older one stays as it is, and the
+exit status is 6.
 
   --write-anyway
               writes the model all the same, which records why it isn't to be released. The exit
@@ -161,9 +163,10 @@ Told are, a line for each caption: its line and its serial in FILE, its label th
 it is sorted to with its votes, the runner-up with its own, and `tie of ..` with the labels that
 share the most votes, where several do, and `K(j) is nan` (or inf) where a value that has a say
 isn't finite. Of those that FILE has a label for, the part that is sorted so is told on standard
-error, and how many ties there are; and a note where MODEL isn't to be released, where a value isn't
-finite, and where FILE has a label that MODEL hasn't. Where something in FILE is wrong, nothing but
-that is told. MODEL or FILE may be -, standard input.
+error, and how many ties there are; and a note where MODEL isn't to be released, where it has no
+record, which svm-train's never has, where a value isn't finite, and where FILE has a label that
+MODEL hasn't. Where something in FILE is wrong, nothing but that is told. MODEL or FILE may be -,
+standard input.
 
   --votes     tells the votes of every language, too, as LABEL:VOTES
   --labels    tells nothing but the label of each, a line each, which is what svm-predict writes
@@ -243,8 +246,8 @@ What `show` tells of it is told on standard error. It takes only --pair, --sampl
 
   --sample S  lists the sample of serial number S alone
   --captions TEXTS
-              a text file with a caption for each sample of FILE, a line each in their order: then
-              the caption stands beside each
+              a text file with a caption for each sample of FILE, a line each in their order, which
+              must be that of their serial numbers: then the caption stands beside each
   --csv       lines of sample,serial,label,against,weight,ceiling,mark,linfa_svm,caption,eps:
               against is the other label, ceiling a number, mark at, above or retired. What isn't
               known is empty
@@ -266,8 +269,9 @@ each step that chose it, and what is answered. docs/TRAIL.md reads such a list.
 
   --sample S  the serial number, in FILE, of the sample to follow
   --captions TEXTS
-              a text file with a caption for each sample of FILE, a line each in their order: then
-              the caption stands beside each serial number
+              a text file with a caption for each sample of FILE, a line each in their order, which
+              must be that of their serial numbers: then the caption stands beside each serial
+              number
 
 A step has two samples. The first table has its pass, the other sample (its partner) with its label,
 whether the followed one was the first of the pair (i) or the second (j), the step, which is what it

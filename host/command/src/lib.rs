@@ -184,16 +184,15 @@ impl Told<'_> {
             }
             Command::Train => {
                 let unfit = report::unfit(settings, answer);
-                if unfit.is_none() || settings.anyway {
+                let written = unfit.is_none() || settings.anyway;
+                if written {
                     let cautions = &self.judged.cautions;
                     let record = Record::of(s, settings, &[answer.reason], unfit, cautions);
                     let text = model::text(s, settings, answer);
                     save::whole(&self.call.model_path(), &record.behind(&text))?;
                 }
-                match settings.quiet {
-                    true => Ok(()),
-                    false => tell(out, &report::summary(s, settings, ceilings, answer)),
-                }
+                let summary = report::summary(s, settings, ceilings, answer);
+                summed_up(self.call, written, &summary, out)
             }
             _ => Ok(()),
         }
@@ -225,10 +224,34 @@ impl Told<'_> {
 fn unfit(call: &Call, why: String) -> Trouble {
     let model = match (call.command, call.settings.anyway) {
         (Command::Train, true) => format!("; {} was written all the same", call.model_path()),
-        (Command::Train, false) => "; no model was written (--write-anyway writes it)".to_string(),
+        (Command::Train, false) => format!(
+            "; no model was written (--write-anyway writes it){}",
+            older(&call.model_path())
+        ),
         _ => String::new(),
     };
     Trouble::Unfit(format!("not to be released: {}{}", why, model))
+}
+
+/// That a file of that name is an older one.
+fn older(path: &str) -> String {
+    match std::fs::metadata(path).map_or(false, |old| old.is_file()) {
+        true => format!("; the older {} still stands", path),
+        false => String::new(),
+    }
+}
+
+/// Tells of a training; where that can't be, it is told that its model was written all the same.
+fn summed_up(call: &Call, written: bool, text: &str, out: &mut dyn Write) -> Result<(), Trouble> {
+    if call.settings.quiet {
+        return Ok(());
+    }
+    tell(out, text).map_err(|trouble| match trouble {
+        Trouble::Write(told) if written => {
+            Trouble::Write(format!("{}; {} was written", told, call.model_path()))
+        }
+        other => other,
+    })
 }
 
 /// Lines for standard error. Where it takes nothing, there is no place left to say so.
@@ -242,6 +265,7 @@ impl Judged {
     fn of_settings(&mut self, settings: &Settings, ceilings: &[f64]) {
         self.cautions.extend(report::of_shrinking(settings));
         self.notes.extend(report::of_travelling(settings, ceilings));
+        self.notes.extend(settings.idle());
     }
 
     /// What a check tells, and else the first fault. The rest is handed back; a check has told it.

@@ -1,6 +1,6 @@
 //! The list of retired samples: serial numbers, in the words of a call or in a file.
 use crate::problem::Samples;
-use crate::{text, Trouble};
+use crate::{input, text, Trouble};
 use std::collections::BTreeMap;
 
 /// Where a list stands: in a file of that name, or in the call itself.
@@ -29,7 +29,7 @@ impl Source<'_> {
             Some(path) => path,
             None => return Ok(list.to_string()),
         };
-        let data = std::fs::read(path).map_err(|e| {
+        let data = input::of_file(path).map_err(|e| {
             Trouble::File(format!(
                 "--retired: '{}' is no list of serial numbers and no file that can be read: {}",
                 path, e

@@ -2,7 +2,7 @@
 use crate::arguments::{Call, Command, Settings};
 use crate::problem::Samples;
 use crate::record::Record;
-use crate::{answered, faults, model, noted, progress, report, save, tell, Trouble, Whole};
+use crate::{answered, faults, model, noted, progress, report, save, summed_up, Trouble, Whole};
 use altuliscia::{pairs, Answer, ExitReason, SUPPORT_LIMIT};
 use std::io::Write;
 
@@ -85,15 +85,14 @@ pub fn carried_out(
     judged.cautions.extend(trained.above.iter().cloned());
     judged.notes.extend(trained.notes());
     let unfit = Some(trained.unfit.join("; ")).filter(|why| !why.is_empty());
-    if unfit.is_none() || settings.anyway {
+    let written = unfit.is_none() || settings.anyway;
+    if written {
         let (ends, cautions) = (&trained.ends, &judged.cautions);
         let record = Record::of(s, settings, ends, unfit.clone(), cautions);
         let text = model::of_several(s, settings.fit, &trained);
         save::whole(&call.model_path(), &record.behind(&text))?;
     }
-    if !settings.quiet {
-        tell(out, &summary(s, settings, &trained))?;
-    }
+    summed_up(call, written, &summary(s, settings, &trained), out)?;
     noted(judged.lines(), err);
     match unfit {
         Some(why) => Err(crate::unfit(call, why)),

@@ -60,6 +60,7 @@ pub fn carried_out(
     tell(out, &list(asked, &sorter, &captions))?;
     let mut lines = notes(&model, captions.iter().map(|c| &c.caption));
     if !asked.quiet {
+        lines.extend(unrecorded(&model));
         lines.extend(counted(&sorter, &captions));
     }
     noted(lines, err);
@@ -93,6 +94,17 @@ pub fn notes<'a>(model: &Model, captions: impl Iterator<Item = &'a Caption>) -> 
         )
     });
     [unfit, wild, strange].into_iter().flatten().collect()
+}
+
+/// That nothing vouches for a model, where it has no record.
+pub fn unrecorded(model: &Model) -> Option<String> {
+    let told = || {
+        format!(
+            "note: {} has no record: nothing says what it was trained on, or whether it is to be released",
+            model.path
+        )
+    };
+    model.record.is_none().then(told)
 }
 
 /// The captions of a file, with as many kernel values as a model asks for.

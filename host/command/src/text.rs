@@ -1,5 +1,5 @@
 //! Files of text that a call names beside its problem.
-use crate::Trouble;
+use crate::{input, Trouble};
 
 /// The text of a file's bytes, which may begin with the mark that some editors set before UTF-8.
 pub fn decoded(path: &str, data: &[u8]) -> Result<String, Trouble> {
@@ -14,7 +14,7 @@ pub fn decoded(path: &str, data: &[u8]) -> Result<String, Trouble> {
 
 /// A file's lines, one for each of n samples.
 pub fn captions(path: &str, n: usize) -> Result<Vec<String>, Trouble> {
-    let data = std::fs::read(path).map_err(|e| Trouble::File(format!("{}: {}", path, e)))?;
+    let data = input::of_file(path).map_err(|e| Trouble::File(format!("{}: {}", path, e)))?;
     let text = decoded(path, &data)?;
     let lines: Vec<String> = text.lines().map(str::to_string).collect();
     match lines.len() == n {

@@ -61,10 +61,22 @@ pub fn captions(
         Some(path) => path,
         None => return Ok(None),
     };
+    ascending(s, &whole.serials)?;
     let captions = text::captions(path, whole.n)?;
     let place = |k: usize| s.lines.get(k).map_or(k, |line| line.number - 1);
     let own = (0..s.n).map(|k| captions.get(place(k)).cloned().unwrap_or_default());
     Ok(Some(own.collect()))
+}
+
+/// Whether the lines of a file stand in the order of its serial numbers. Where they don't, a file of captions may follow either.
+fn ascending(s: &Samples, serials: &[u64]) -> Result<(), Trouble> {
+    match serials.windows(2).find(|two| two[0] >= two[1]) {
+        Some(two) => Err(Trouble::Usage(format!(
+            "--captions: in {} serial {} stands behind serial {}, so the captions may be in the order of its lines or in that of its serial numbers: sort both files by serial number",
+            s.path, two[1], two[0]
+        ))),
+        None => Ok(()),
+    }
 }
 
 /// Follows a sample through the training.

@@ -204,7 +204,7 @@ fn help_tells_of_it() {
             "{}",
             line
         );
-        assert!(help.contains("(11\nto 24)"), "{}", line);
+        assert!(help.contains("(11 to 24)"), "{}", line);
     }
     let help = told("trail --help", "", "").unwrap();
     assert!(help.contains("There is no trail with -h 1, nor with another floor than 1e-10."));

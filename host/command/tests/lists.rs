@@ -363,8 +363,16 @@ fn decisions_are_told_with_every_digit() {
         (expected, "Accuracy = 100% (1/1)\n")
     );
     let json = told("decide --json MODEL FILE", &held, &model).unwrap();
-    let expected = "[\n  {\"line\": 1, \"serial\": \"1\", \"label\": 7, \"sorted\": 7, \"finite\": true, \"decisions\": {\"7,3\": 0.0}},\n  {\"line\": 2, \"serial\": \"2\", \"label\": null, \"sorted\": 3, \"finite\": true, \"decisions\": {\"7,3\": -2.220446049250313e-16}}\n]\n";
+    let expected = "[\n  {\"line\": 1, \"serial\": 1, \"label\": 7, \"sorted\": 7, \"finite\": true, \"decisions\": {\"7,3\": 0.0}},\n  {\"line\": 2, \"serial\": 2, \"label\": null, \"sorted\": 3, \"finite\": true, \"decisions\": {\"7,3\": -2.220446049250313e-16}}\n]\n";
     assert_eq!(json, expected);
+    // LIBSVM takes any number as a serial: one is a number here, and what isn't finite a string.
+    let odd = b"0:+3.0 1:1 2:1\n0:-1.5 1:1 2:1\n0:3000000000 1:1 2:1\n0:inf 1:1 2:1\n";
+    let json = told("decide --json MODEL FILE", &file(&f, "odd", odd), &model).unwrap();
+    let words = json
+        .lines()
+        .filter_map(|line| line.split("\"serial\": ").nth(1));
+    let serials: Vec<&str> = words.map(|word| word.split(',').next().unwrap()).collect();
+    assert_eq!(serials, ["3", "-1.5", "3000000000.0", "\"inf\""]);
     // One class.
     told("train -q -s 2 FILE MODEL", &small, &model).unwrap();
     let held = file(&f, "held", b"0:1 1:1 2:0\n0:2 1:0.5 2:0.25\n");
@@ -456,8 +464,13 @@ fn a_closed_standard_output_is_an_error() {
     if std::env::var_os("CARGO_TARGET_X86_64_UNKNOWN_LINUX_GNU_RUNNER").is_some() {
         return;
     }
-    let told_of = "altuliscia: not all was written to standard output: it is closed\n";
-    assert_eq!(said("train"), (Some(4), told_of.to_string()));
-    assert_eq!(said("--help"), (Some(4), told_of.to_string()));
+    let told_of = "altuliscia: not all was written to standard output: it is closed";
+    assert_eq!(said("--help"), (Some(4), format!("{}\n", told_of)));
+    // A model that was written is named; one that isn't to be released isn't written.
+    assert_eq!(said("train -c 1e-16"), (Some(4), format!("{}\n", told_of)));
+    assert_eq!(fs::read(&model).unwrap(), b"old");
+    let written = format!("{}; {} was written\n", told_of, model);
+    assert_eq!(said("train"), (Some(4), written));
+    assert_ne!(fs::read(&model).unwrap(), b"old");
     assert_eq!(said("train -q"), (Some(0), String::new()));
 }

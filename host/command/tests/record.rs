@@ -80,7 +80,12 @@ fn a_model_of_several_records_every_pair() {
         &panel,
         &model,
     ];
-    assert_eq!(whole(&unwritten).0, 6);
+    let (status, _, err) = whole(&unwritten);
+    let still = format!(
+        "; no model was written (--write-anyway writes it); the older {} still stands\n",
+        model
+    );
+    assert!(status == 6 && err.ends_with(&still), "{}", err);
     assert_eq!(fs::read(&model).unwrap(), b"old");
     let words = [
         "train",
@@ -336,9 +341,12 @@ fn the_record_has_no_say_in_what_is_sorted() {
         "old",
         bare(&fs::read_to_string(&model).unwrap()).as_bytes(),
     );
+    let note = format!("note: {} has no record: nothing says what it was trained on, or whether it is to be released\n", old);
     for line in ["sort --votes MODEL FILE", "decide MODEL FILE"] {
-        let with = both(line, &path, &model).unwrap();
-        assert_eq!(with, both(line, &path, &old).unwrap());
+        let (out, err) = both(line, &path, &model).unwrap();
+        assert_eq!(both(line, &path, &old).unwrap(), (out, note.clone() + &err));
+        let quiet = line.replace(" MODEL", " -q MODEL");
+        assert_eq!(both(&quiet, &path, &old).unwrap().1, "");
     }
 }
 

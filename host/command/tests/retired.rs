@@ -358,7 +358,7 @@ fn help_tells_of_it() {
     for line in ["train --help", "weights --help", "check --help"] {
         let help = told(line, "", "").unwrap();
         assert!(help.contains("\n  --retired LIST\n"), "{}", line);
-        assert!(help.contains("(11\nto 24)"), "{}", line);
+        assert!(help.contains("(11 to 24)"), "{}", line);
     }
     let help = told("--help", "", "").unwrap();
     assert!(help.contains("`altuliscia train --retired 20,31 packs.txt`"));

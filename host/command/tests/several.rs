@@ -297,7 +297,16 @@ fn a_pair_alone_is_a_file_of_its_lines() {
 #[test]
 fn one_weight_of_a_pair_is_followed() {
     let f = folder("several-trail");
-    let text = drawn(60);
+    let drawn = drawn(60);
+    let mut lines: Vec<&str> = drawn.lines().collect();
+    lines.sort_by_key(|l| {
+        l.split(&[' ', ':'][..])
+            .nth(2)
+            .unwrap()
+            .parse::<u64>()
+            .unwrap()
+    });
+    let text = lines.join("\n") + "\n";
     let path = file(&f, "all", text.as_bytes());
     let rest = file(&f, "rest", only(&text, &[12, 5]).as_bytes());
     let name = |line: &str| format!("caption of {}\n", line.split(' ').nth(1).unwrap());
@@ -314,6 +323,20 @@ fn one_weight_of_a_pair_is_followed() {
     assert_eq!(alone, (out, err));
     assert!(alone.0.contains(&format!("\"caption of 0:{}\"", serial)));
     assert!(alone.0.contains("Checked with "), "{}", alone.0);
+    // Where the lines aren't in the order of their serial numbers, the captions may follow either.
+    let mixed = file(&f, "mixed", drawn.as_bytes());
+    for command in ["trail", "weights"] {
+        let words = [&[command], &words[1..], &[&all, "--pair", "12,5", &mixed]].concat();
+        let trouble = said(&words).unwrap_err();
+        let end = "so the captions may be in the order of its lines or in that of its serial numbers: sort both files by serial number (see altuliscia --help)";
+        let told_of = trouble.to_string();
+        assert!(
+            trouble.status() == 2 && told_of.ends_with(end),
+            "{}",
+            told_of
+        );
+        assert!(told_of.starts_with(&format!("--captions: in {} serial ", mixed)));
+    }
     let other = only(&text, &[1]).split(' ').nth(1).unwrap()[2..].to_string();
     let words = ["trail", "--pair", "12,5", "--sample", &other, &path];
     let trouble = said(&words).unwrap_err();

@@ -252,7 +252,8 @@ fn costs_that_differ_get_a_note() {
     }
     // The same factor for both is none.
     assert_eq!(whole(&["check", "-w7", "2", "-w3", "2", &path]).2, "");
-    assert_eq!(whole(&["check", "-s1", "-w7", "2", &path]).2, "");
+    let idle = "note: -w7 has no say with -s 1\n";
+    assert_eq!(whole(&["check", "-s1", "-w7", "2", &path]).2, idle);
 }
 
 /// A value beside a serial number of the model has a say; any other may be what it likes.
@@ -306,4 +307,57 @@ fn a_label_that_the_model_has_not_is_told() {
     told("train -q -s 2 FILE MODEL", &train, &model).unwrap();
     let (_, err) = both("decide -q MODEL FILE", &path, &model).unwrap();
     assert_eq!(err, "");
+}
+
+/// No problem is as large, and a device may never end. The file takes no room.
+#[test]
+fn what_is_too_large_is_not_read() {
+    let f = folder("wrong-large");
+    let path = file(&f, "a", b"");
+    let large = fs::OpenOptions::new().write(true).open(&path).unwrap();
+    large.set_len((1 << 30) + 1).unwrap();
+    let trouble = told("check FILE", &path, "").unwrap_err();
+    let told_of = format!(
+        "{}: more than 1073741824 bytes, the most that are read",
+        path
+    );
+    assert_eq!((trouble.status(), trouble.to_string()), (3, told_of));
+    let help = told("check --help", "", "").unwrap();
+    assert!(help.contains("No file is read that has more than 2^30 bytes."));
+}
+
+/// They are taken, as svm-train takes them, and a note says that they do nothing.
+#[test]
+fn options_without_a_say_are_noted() {
+    let f = folder("wrong-idle");
+    let path = file(&f, "a", SMALL.as_bytes());
+    for (options, notes) in [
+        ("-c 2 -w7 1 -e 0.1 -s 0", &[][..]),
+        ("-s 1 -n 0.5", &[]),
+        ("-n 0.25", &["-n has no say with -s 0"]),
+        (
+            "-s 1 -c 2 -w7 3",
+            &["-c has no say with -s 1", "-w7 has no say with -s 1"],
+        ),
+        ("-s 2 -c 2 -c 3", &["-c has no say with -s 2"]),
+        (
+            "-c 2 -c 3 -q -q",
+            &["-c is there more than once: the last one counts"],
+        ),
+        (
+            "-w7 2 -w7 0.5",
+            &["-w7 is there more than once: each of them multiplies the cost"],
+        ),
+        (
+            "-e 1 --budget 9 -e 2",
+            &["-e is there more than once: the last one counts"],
+        ),
+    ] {
+        let notes: String = notes.iter().map(|n| format!("note: {}\n", n)).collect();
+        for (command, model) in [("check", ""), ("train -q", "MODEL")] {
+            let line = format!("{} {} FILE {}", command, options, model);
+            let (_, err) = both(&line, &path, "/dev/null").unwrap();
+            assert_eq!(err, notes, "{}", options);
+        }
+    }
 }
