@@ -19,7 +19,8 @@ target, else in target/native, else in target/staticlib. Nothing but Python's st
 
 What is refused is told by a Refusal, which is a ValueError; what is no number at all, by a TypeError. What is answered and shouldn't be
 used without a second look warns, by a Doubtful: a fit that isn't `releasable` (its `unfit` says why), an infeasible nu, a kernel that
-isn't symmetric, a cost given for one class alone, a weight above its ceiling.
+isn't symmetric, a cost given for one class alone, a weight above its ceiling, shrinking, and what is sorted by a value that isn't finite.
+Python's own filter shows a warning once for each line that calls: warnings.simplefilter("always", altuliscia.Doubtful) shows them all.
 
     >>> altuliscia.fit_c([[1, 0], [float("nan"), 1]], [1, 0])
     Traceback (most recent call last):
@@ -79,8 +80,8 @@ from collections import namedtuple
 from itertools import combinations
 
 import altuliscia_taken as _taken
-from altuliscia_answers import (SENTENCES as _SENTENCES, SUPPORT_LIMIT, AboveCeiling, Asymmetric, Doubtful, Fit, InfeasibleNu, NoVotes, NotReleasable,
-                                OneCost, Refusal, Votes, signed as _signed, warn as _warn)
+from altuliscia_answers import (SENTENCES as _SENTENCES, SUPPORT_LIMIT, AboveCeiling, Asymmetric, Doubtful, Fit, InfeasibleNu, NotFinite, NoVotes,
+                                NotReleasable, OneCost, Refusal, Shrinking, Votes, signed as _signed, warn as _warn)
 
 __version__ = "1.6.0"
 
@@ -109,7 +110,7 @@ def fit_c(matrix, labels, cpos=_ONE, cneg=_ONE, *, eps=_EPS, shrinking=False, bu
     the other left at 1, a OneCost warns.
 
     eps        the run ends where no pair breaks the conditions by this much; `tol` is the same
-    shrinking  whether samples that seem settled are put aside; where it is on, a run may end in refusal 11
+    shrinking  whether samples that seem settled are put aside; where it is on, a run may end in refusal 11, and one that doesn't warns
     budget     the most passes, 1 to 10000000; `max_iter` is the same, and its -1 is 10000000
     retired    the numbers of the samples to train without, counted from 0 as in support_, in any order. What is given for them is
                judged as any other's and has no say in the answer; shrinking must be off (refusal 13)
@@ -121,7 +122,7 @@ def fit_c(matrix, labels, cpos=_ONE, cneg=_ONE, *, eps=_EPS, shrinking=False, bu
     costs = _costs(cpos, cneg, C)
     options = _options(eps, tol, shrinking, budget, max_iter, floor, travelling)
     problem = _taken.Problem(matrix, labels, retired)
-    return _judged(_fit_c(problem, costs, options), problem)
+    return _judged(_fit_c(problem, costs, options), problem, options)
 
 
 def fit_nu(matrix, labels, nu=0.5, *, eps=_EPS, shrinking=False, budget=_PASSES, floor=USUAL_FLOOR, tol=None, max_iter=None):
@@ -132,7 +133,7 @@ def fit_nu(matrix, labels, nu=0.5, *, eps=_EPS, shrinking=False, budget=_PASSES,
     told = _infeasible(problem, nu)
     if told:
         _warn(InfeasibleNu, told)
-    return _judged(_fit_nu(problem, nu, options), problem)
+    return _judged(_fit_nu(problem, nu, options), problem, options)
 
 
 def fit_one_class(matrix, nu=0.5, *, n=None, eps=_EPS, shrinking=False, budget=_PASSES, floor=USUAL_FLOOR, tol=None, max_iter=None):
@@ -140,7 +141,7 @@ def fit_one_class(matrix, nu=0.5, *, n=None, eps=_EPS, shrinking=False, budget=_
     beside it. For the rest see fit_c; `n_iter_` is a list here, too."""
     options = _options(eps, tol, shrinking, budget, max_iter, floor)
     problem = _taken.Problem(matrix, n=n)
-    return _judged(_fit_one_class(problem, nu, options), problem)
+    return _judged(_fit_one_class(problem, nu, options), problem, options)
 
 
 def fit_general(matrix, labels, ceilings, alphas, linear, *, nu_rule=False, eps=_EPS, shrinking=False, budget=_PASSES, retired=None,
@@ -149,14 +150,15 @@ def fit_general(matrix, labels, ceilings, alphas, linear, *, nu_rule=False, eps=
     divided; those of `coefficients` and `dual_coef_` are signed, and `decision_function` goes by them. For the rest see fit_c."""
     options = _options(eps, tol, shrinking, budget, max_iter, floor, travelling)
     problem = _taken.Problem(matrix, labels, retired, ceilings=ceilings, alphas=alphas, linear=linear)
-    return _judged(_fit_general(problem, nu_rule, options), problem)
+    return _judged(_fit_general(problem, _taken.flag("nu_rule", nu_rule), options), problem, options)
 
 
 _Options = namedtuple("_Options", "eps shrinking budget floor travelling")
 
 
 def _options(eps, tol, shrinking, budget, max_iter, floor, travelling=False):
-    return _Options(_taken.either("eps", eps, "tol", tol), shrinking, _taken.passes(budget, max_iter, MOST_PASSES), floor, bool(travelling))
+    shrinking, travelling = _taken.flag("shrinking", shrinking), _taken.flag("travelling", travelling)
+    return _Options(_taken.either("eps", eps, "tol", tol), shrinking, _taken.passes(budget, max_iter, MOST_PASSES), floor, travelling)
 
 
 def _costs(cpos, cneg, both):
@@ -179,9 +181,10 @@ def _infeasible(problem, nu):
     return f"nu {value!r} is infeasible: the smaller class has {fewest} of {n} samples, so nu may be {2 * fewest / n:g} at the most"
 
 
-def _judged(fit, problem):
+def _judged(fit, problem, options):
     """The fit, with a warning for whatever is doubtful about it."""
     _mirrored(problem)
+    _shrunk(options)
     if fit.above_ceiling:
         _warn(AboveCeiling, f"a weight is above its ceiling, which can't be with equal ceilings: samples {fit.above_ceiling}")
     if not fit.releasable:
@@ -194,6 +197,13 @@ def _mirrored(problem):
     found = _taken.unlike(problem.kernel, problem.n, problem.gone)
     if found:
         _warn(Asymmetric, "the kernel isn't symmetric: column {0}, row {1} is {2!r}, and column {1}, row {0} is {3!r}".format(*found))
+
+
+def _shrunk(options):
+    """Warns where shrinking is on."""
+    if options.shrinking:
+        _warn(Shrinking, "shrinking is on: 'threshold' then speaks only of the samples still active, and obj and rho needn't be those of the "
+                         "weights; train with shrinking=False")
 
 
 # The fits without a warning.

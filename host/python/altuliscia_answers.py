@@ -106,6 +106,19 @@ class AboveCeiling(Doubtful):
     __module__ = "altuliscia"
 
 
+class Shrinking(Doubtful):
+    """A fit with shrinking on: docs/PROMISES.md says to train with it off."""
+
+    __module__ = "altuliscia"
+
+
+class NotFinite(Doubtful):
+    """A caption that is sorted by a kernel value that isn't finite, or by a sum that isn't: a NaN speaks for the negative class, or the second
+    language, whatever the others say."""
+
+    __module__ = "altuliscia"
+
+
 _OWN = {"altuliscia", "altuliscia_answers", "altuliscia_languages", "altuliscia_sklearn", "altuliscia_trail"}
 
 
@@ -256,7 +269,9 @@ class Fit:
     def predict(self, rows):
         """The label of each row: that of the positive class where its decision is 0 or above, else, NaN too, the other."""
         negative, positive = self.classes_
-        return [positive if decision >= 0 else negative for decision in self.decision_function(rows)]
+        decisions = self.decision_function(rows)
+        doubt([k for k, decision in enumerate(decisions) if not math.isfinite(decision)], "the decision on")
+        return [positive if decision >= 0 else negative for decision in decisions]
 
     def score(self, rows, labels):
         """The share of rows that `predict` gives their label."""
@@ -274,6 +289,13 @@ def _sum(weights, values):
 def signed(weights, marks, gone):
     """Negated where a sample is negative. The 0 of a retired one stays as it is."""
     return [x if mark or k in gone else -x for k, (x, mark) in enumerate(zip(weights, marks))]
+
+
+def doubt(places, what):
+    """Warns of rows that are sorted by what isn't finite, where there are some."""
+    if places:
+        more = f", and {len(places) - 1} more" if len(places) > 1 else ""
+        warn(NotFinite, f"{what} row {places[0]}{more}, counted from 0, isn't finite: the label of such a row says nothing")
 
 
 def share(found, labels, classes):

@@ -17,6 +17,7 @@ part of the matrix, and on something new each of these pairs votes for one of it
 
 A sample's number is its place in the matrix, from 0 on, and it keeps it in every pair.
 """
+import math
 import numbers
 import operator
 from array import array
@@ -25,7 +26,7 @@ from itertools import combinations
 import altuliscia
 import altuliscia_taken as taken
 from altuliscia import _EPS, _PASSES, MOST_LANGUAGES, USUAL_FLOOR, InfeasibleNu, NotReleasable, Refusal
-from altuliscia_answers import share, warn
+from altuliscia_answers import doubt, share, warn
 
 
 def fit_languages(matrix, labels, C=None, *, nu=None, languages=None, retired=None, eps=_EPS, shrinking=False, budget=_PASSES,
@@ -52,6 +53,7 @@ def fit_languages(matrix, labels, C=None, *, nu=None, languages=None, retired=No
     cost = ("C", 1.0 if C is None else C)
     fits = [altuliscia._fit_c(part, (cost, cost), options) if nu is None else altuliscia._fit_nu(part, nu, options) for part in parts]
     altuliscia._mirrored(whole)
+    altuliscia._shrunk(options)
     sorter = Sorter(whole, parts, fits)
     if not sorter.releasable:
         warn(NotReleasable, f"this sorter isn't to be released: {sorter.unfit}")
@@ -62,7 +64,7 @@ class _Whole:
     """All samples of all languages."""
 
     def __init__(self, matrix, labels, retired, languages):
-        self.labels = [taken.plain(label) for label in labels]
+        self.labels = [taken.plain(label) for label in taken.unmasked(labels)]
         self.n = len(self.labels)
         self.gone = taken.retired(retired, self.n)
         for k, label in enumerate(self.labels):
@@ -149,7 +151,9 @@ class Sorter:
         gone = set(self.retired_)
         lent = [self._row(row, gone) for row in taken.rows(rows)]
         coefficients, rhos = [fit.coefficients for fit in self.fits], [fit.rho for fit in self.fits]
-        return altuliscia.votes_of_rows(len(self.classes_), coefficients, self.samples, rhos, lent)
+        found = altuliscia.votes_of_rows(len(self.classes_), coefficients, self.samples, rhos, lent)
+        doubt([k for k, row in enumerate(lent) if not all(map(math.isfinite, row))], "a kernel value of")
+        return found
 
     def _row(self, row, gone):
         if not hasattr(row, "__len__"):

@@ -43,6 +43,26 @@ def double(number):
         raise TypeError(f"a double is needed, not {number!r:.40}") from None
 
 
+def flag(name, given):
+    """Whether something is on: a bool, of numpy too, or 0 or 1. Any other text or list would be on, whatever it says."""
+    # numpy's bool is bool_ in its older versions
+    if type(given).__name__ not in ("bool", "bool_"):
+        try:
+            found = operator.index(given)
+        except TypeError:
+            found = None
+        if found not in (0, 1):
+            raise TypeError(f"{name} is True or False, not {given!r:.40}")
+    return bool(given)
+
+
+def unmasked(given):
+    """What is given, where it isn't a masked array: that would be taken for the numbers under its mask."""
+    if hasattr(given, "mask") and hasattr(given, "filled"):
+        raise TypeError("numbers are needed one by one, not a masked array: give its filled(..) with numbers that you choose, or its data")
+    return given
+
+
 def labels(given):
     """The labels as bytes, and the two classes, of which the second is positive: 0 and 1, else the two that are there, in their order.
     Where numbers can't be labels, those that are neither 0 nor 1 are lent as 2, which the library refuses."""
@@ -128,6 +148,7 @@ def place(number):
 def settled(given):
     """What is an array of numpy, or gives one as a data frame does, as that array, of Python's objects as lists; all else as it is."""
     numpy = sys.modules.get("numpy")
+    unmasked(given)
     if hasattr(given, "toarray"):
         raise TypeError("numbers are needed one by one, not a sparse matrix: give its toarray()")
     if numpy is None or not hasattr(given, "__array__"):
@@ -225,7 +246,7 @@ class Problem:
             self.given_labels, self.marks, self.classes = None, None, [-1, 1]
             self.n = columns(given) if n is None else operator.index(n)
         else:
-            self.given_labels = [plain(mark) for mark in marks]
+            self.given_labels = [plain(mark) for mark in unmasked(marks)]
             self.marks, self.classes = labels(self.given_labels)
             self.n = len(self.marks)
         self.gone = retired(gone, self.n)

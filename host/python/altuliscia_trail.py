@@ -26,7 +26,7 @@ from collections import namedtuple
 import altuliscia
 from altuliscia import _EPS, _ONE, _PASSES, USUAL_FLOOR, Before, _costs, _options
 from altuliscia_answers import signed
-from altuliscia_taken import Problem
+from altuliscia_taken import Problem, flag
 
 
 class Trail(namedtuple("Trail", "sample retired ceiling start steps end home fit calls")):
@@ -153,7 +153,7 @@ def trail_one_class(matrix, nu=0.5, *, sample, n=None, eps=_EPS, shrinking=False
 def trail_general(matrix, labels, ceilings, alphas, linear, *, sample, nu_rule=False, eps=_EPS, shrinking=False, budget=_PASSES,
                   retired=None, floor=USUAL_FLOOR, tol=None, max_iter=None):
     """As trail_c, in what altuliscia.fit_general trains."""
-    options = _options(eps, tol, shrinking, budget, max_iter, floor)
+    options, nu_rule = _options(eps, tol, shrinking, budget, max_iter, floor), flag("nu_rule", nu_rule)
     problem = Problem(matrix, labels, retired, ceilings=ceilings, alphas=alphas, linear=linear)
 
     def fit(passes):

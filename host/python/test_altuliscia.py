@@ -24,7 +24,7 @@ def read(name):
 
 
 def load_tests(loader, tests, pattern):
-    tests.addTests(doctest.DocTestSuite(altuliscia))
+    tests.addTests(doctest.DocTestSuite(altuliscia, setUp=lambda _: setUpModule(), tearDown=lambda _: tearDownModule()))
     return tests
 
 

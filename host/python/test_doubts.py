@@ -6,8 +6,11 @@ import unittest
 import warnings
 from array import array
 
-from altuliscia import AboveCeiling, Asymmetric, Doubtful, Fit, InfeasibleNu, NotReleasable, OneCost, Refusal, fit_c, fit_general, fit_nu, fit_one_class
+from altuliscia import (AboveCeiling, Asymmetric, Doubtful, Fit, InfeasibleNu, NotFinite, NotReleasable, OneCost, Refusal, Shrinking, fit_c, fit_general,
+                        fit_nu, fit_one_class)
+from altuliscia_languages import fit_languages
 from altuliscia_taken import unlike
+from altuliscia_trail import trail_general
 from test_altuliscia import IDENTITY, identity
 
 # Four samples on a line, which take some steps.
@@ -79,7 +82,7 @@ class Released(Doubts):
         self.assertIn(", 1 steps, ceilings differ, not releasable: the budget ran out after 1 steps>", repr(fit))
 
     def test_kinds(self):
-        for kind in (NotReleasable, InfeasibleNu, Asymmetric, OneCost, AboveCeiling):
+        for kind in (NotReleasable, InfeasibleNu, Asymmetric, OneCost, AboveCeiling, Shrinking, NotFinite):
             self.assertTrue(issubclass(kind, Doubtful) and issubclass(kind, UserWarning))
             self.assertEqual(kind.__module__, "altuliscia")
         with warnings.catch_warnings():
@@ -170,6 +173,60 @@ class Told(Doubts):
             lambda: fit_c(LINE, SIDES, C=10.0),
         ):
             self.warns([], call)
+
+    def test_shrinking(self):
+        lists = [1] * 4, [0] * 4, [-1] * 4
+        for call in (
+            lambda: fit_c(LINE, SIDES, shrinking=True),
+            lambda: fit_nu(LINE, SIDES, 0.3, shrinking=True),
+            lambda: fit_one_class(LINE, shrinking=1),
+            lambda: fit_general(LINE, SIDES, *lists, shrinking=True),
+            lambda: fit_languages(LINE, SIDES, shrinking=True),
+        ):
+            fit, told = self.warns([Shrinking], call)
+            self.assertTrue(fit.releasable)
+            self.assertTrue(told[0].startswith("shrinking is on: "))
+        self.warns([], lambda: fit_c(LINE, SIDES, shrinking=0))
+        self.warns([Shrinking, NotReleasable], lambda: fit_c(LINE, SIDES, shrinking=True, budget=1))
+
+    def test_flags(self):
+        """A word is never taken for what it doesn't say."""
+        lists = [1] * 4, [0] * 4, [-1] * 4
+        for flag in ("no", "", "False", [0], [], None, 2, -1, 1.0, math.nan):
+            for name, call in (
+                ("shrinking", lambda: fit_c(LINE, SIDES, shrinking=flag)),
+                ("shrinking", lambda: fit_nu(LINE, SIDES, 0.3, shrinking=flag)),
+                ("shrinking", lambda: fit_one_class(LINE, shrinking=flag)),
+                ("shrinking", lambda: fit_languages(LINE, SIDES, shrinking=flag)),
+                ("travelling", lambda: fit_c(LINE, SIDES, travelling=flag)),
+                ("travelling", lambda: fit_general(LINE, SIDES, *lists, travelling=flag)),
+                ("nu_rule", lambda: fit_general(LINE, SIDES, *lists, nu_rule=flag)),
+                ("nu_rule", lambda: trail_general(LINE, SIDES, *lists, sample=0, nu_rule=flag)),
+            ):
+                with self.assertRaises(TypeError) as caught:
+                    call()
+                self.assertEqual(str(caught.exception), f"{name} is True or False, not {flag!r}")
+
+    def test_not_finite(self):
+        fit, sorter = fit_c(LINE, SIDES, retired=[1]), fit_languages(LINE, SIDES, retired=[1])
+        good, spoilt = [1.0, 2.0, 3.0, 4.0], [[1.0, 2.0, bad, 4.0] for bad in (math.nan, math.inf, -math.inf)]
+        # What stands at a retired sample's place has no say.
+        for rows in ([], [good], [good, [1.0, math.nan, 3.0, 4.0]]):
+            self.warns([], lambda: fit.predict(rows))
+            self.warns([], lambda: sorter.predict(rows))
+        for row in spoilt:
+            for call, what in (
+                (lambda: fit.predict([good, row]), "the decision on"),
+                (lambda: fit.score([good, row], [1, 0]), "the decision on"),
+                (lambda: sorter.predict([good, row]), "a kernel value of"),
+                (lambda: sorter.votes([good, row]), "a kernel value of"),
+            ):
+                _, told = self.warns([NotFinite], call)
+                self.assertEqual(told, [f"{what} row 1, counted from 0, isn't finite: the label of such a row says nothing"])
+        _, told = self.warns([NotFinite], lambda: sorter.predict([good] + spoilt))
+        self.assertTrue(told[0].startswith("a kernel value of row 1, and 2 more, counted from 0, isn't finite: "))
+        # Decisions show it themselves.
+        self.warns([], lambda: fit.decision_function(spoilt))
 
     def test_above_ceiling(self):
         # docs/DIFFERENCES.md, 'Unequal ceilings have no box': sample 1 ends above its ceiling by a rounding.

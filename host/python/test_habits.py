@@ -19,6 +19,7 @@ from unittest import mock
 
 import altuliscia
 from altuliscia import Fit, NoVotes, Refusal, find_pair, fit_c, fit_general, fit_nu, fit_one_class, votes, votes_of_rows
+from altuliscia_languages import fit_languages
 from altuliscia_trail import Differs
 from test_altuliscia import IDENTITY, Problem, bits, identity, setUpModule, tearDownModule, told  # noqa: F401
 from test_doubts import LINE, SIDES
@@ -187,6 +188,8 @@ class Arrays(unittest.TestCase):
             for form in (kernel, numpy.asfortranarray(kernel), numpy.repeat(kernel, 2, axis=1)[:, ::2], list(kernel)):
                 self.assertEqual(told(fit_c(form, SIDES)), plain, kind)
         self.assertEqual(told(fit_c(numpy.identity(2, dtype=bool), [1, 0])), told(fit_c(IDENTITY, [1, 0])))
+        for flag in (numpy.False_, numpy.bool_(0), numpy.int64(0)):
+            self.assertEqual(told(fit_c(LINE, SIDES, shrinking=flag, travelling=flag)), told(fit_c(LINE, SIDES)))
         self.assertEqual(told(fit_one_class(numpy.array(LINE, dtype="float32"))), told(fit_one_class(LINE)))
         for kind in ("complex128", "U3", "datetime64[s]"):
             with self.assertRaises(TypeError) as caught:
@@ -275,6 +278,27 @@ def trained(cost):
 
 def counted(languages):
     return votes(languages, [[1]], [[1]], [0])
+
+
+@unittest.skipUnless(numpy, "no numpy")
+class Masked(unittest.TestCase):
+    def test_refused(self):
+        """numpy would hand over the numbers under the mask."""
+        fit = fit_c(IDENTITY, [1, 0])
+        kernel, labels = numpy.ma.masked_equal(IDENTITY, 7), numpy.ma.array([1, 0], mask=[0, 1])
+        for call in (
+            lambda: fit_c(kernel, [1, 0]),
+            lambda: fit_one_class(kernel),
+            lambda: fit_c(IDENTITY, labels),
+            lambda: fit_languages(kernel, ["a", "b"]),
+            lambda: fit_languages(IDENTITY, labels),
+            lambda: fit.predict(kernel),
+            lambda: fit_languages(IDENTITY, [1, 0]).votes(kernel),
+        ):
+            with self.assertRaises(TypeError) as caught:
+                call()
+            self.assertIn("not a masked array: give its filled(..)", str(caught.exception))
+        self.assertEqual(told(fit_c(kernel.filled(0), labels.data)), told(fit))
 
 
 class Pickles(unittest.TestCase):

@@ -5,7 +5,7 @@ import unittest
 from unittest import mock
 
 import altuliscia
-from altuliscia import AboveCeiling, Refusal, fit_c, fit_general, fit_nu, fit_one_class
+from altuliscia import AboveCeiling, Refusal, Shrinking, fit_c, fit_general, fit_nu, fit_one_class
 from altuliscia_taken import Problem
 from test_altuliscia import IDENTITY, bits, identity, shown, told
 from test_doubts import Doubts, warned
@@ -19,9 +19,9 @@ GENERAL = ([[4, 0, 0, -1], [0, 2, 2, 1], [0, 2, 4, 0], [-1, 1, 0, 3]], [1, 0, 0,
 
 class Modes(Doubts):
     def test_own_ceiling(self):
-        fit, _ = self.warns([AboveCeiling], lambda: fit_c(KERNEL, LABELS, 1.0, 2.0, shrinking=True))
+        fit, _ = self.warns([Shrinking, AboveCeiling], lambda: fit_c(KERNEL, LABELS, 1.0, 2.0, shrinking=True))
         self.assertEqual((fit.home[3], fit.above_ceiling, fit.n_iter_), (1.146617692072237, [3], [5]))
-        fit, _ = self.warns([], lambda: fit_c(KERNEL, LABELS, 1.0, 2.0, shrinking=True, travelling=True))
+        fit, _ = self.warns([Shrinking], lambda: fit_c(KERNEL, LABELS, 1.0, 2.0, shrinking=True, travelling=True))
         self.assertEqual((fit.home, fit.n_iter_), ([0.0, -0.6400367309458219, -0.3599632690541781, 1.0], [5]))
         self.assertEqual(bits(fit.home), shown("travelled"))
 
@@ -58,11 +58,9 @@ class Modes(Doubts):
         self.assertGreater(parted, 3)
 
     def test_flags(self):
-        for mode in (1, "yes", [0]):
-            self.assertEqual(fit_c(KERNEL, LABELS, 1.0, 2.0, shrinking=True, travelling=mode).home[3], 1.0)
-        for mode in (0, None, ""):
-            fit, _ = warned(lambda: fit_c(KERNEL, LABELS, 1.0, 2.0, shrinking=True, travelling=mode))
-            self.assertEqual(fit.above_ceiling, [3])
+        for mode in (0, 1):
+            fit, _ = warned(lambda: fit_c(KERNEL, LABELS, 1.0, 2.0, shrinking=1, travelling=mode))
+            self.assertEqual(fit.above_ceiling, [] if mode else [3])
 
 
 class NotTaken(unittest.TestCase):
