@@ -46,6 +46,27 @@ impl Trained {
             .collect()
     }
 
+    /// Takes what is to be said of a pair's answer.
+    fn judge(
+        &mut self,
+        labels: &str,
+        pair: &Samples,
+        settings: &Settings,
+        ceilings: (f64, f64),
+        answer: &Answer,
+    ) {
+        let unfit = report::unfit(settings, answer);
+        let unfit = unfit.map(|why| format!("pair {}: {}", labels, why));
+        self.unfit.extend(unfit);
+        let above = report::of_ceilings(pair, settings, ceilings, answer);
+        let above = above.map(|told| format!("{}, in the pair {}", told, labels));
+        self.above.extend(above);
+        if answer.reason == ExitReason::Iterations {
+            self.spent.push(labels.to_string());
+        }
+        self.ends.push(answer.reason);
+    }
+
     fn with(&mut self, s: &Samples, (first, second): (usize, usize), answer: &Answer) {
         let own = (0..s.n).filter(|k| [Some(first), Some(second)].contains(&s.class(*k)));
         for (k, weight) in own.zip(&answer.home) {
@@ -138,16 +159,7 @@ fn trained(
         let answer = answered(&pair, settings, ceilings)
             .map_err(|refusal| Trouble::Refused(format!("{}: {}", s.path, name), refusal))?;
         trained.with(s, (first, second), &answer);
-        let unfit = report::unfit(settings, &answer);
-        let unfit = unfit.map(|why| format!("pair {}: {}", labels, why));
-        trained.unfit.extend(unfit);
-        let above = report::of_ceilings(&pair, settings, ceilings, &answer);
-        let above = above.map(|told| format!("{}, in the pair {}", told, labels));
-        trained.above.extend(above);
-        if answer.reason == ExitReason::Iterations {
-            trained.spent.push(labels);
-        }
-        trained.ends.push(answer.reason);
+        trained.judge(&labels, &pair, settings, ceilings, &answer);
         trained.told.push((
             name,
             report::of_pair(&pair, settings, ceilings, &answer),
