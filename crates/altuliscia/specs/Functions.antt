@@ -104,6 +104,6 @@ votesTold w an = votesHanded (w .out .number) (w .votes) (electionTold (w .out) 
 unfoldable pub votesHost : ℕ → Panel → List ℕ → List ℕ → VotesHanded
 votesHost k l v an = cond (ltb (length an) 24) (votesHanded (cond (languagesGood k) 2 1) v an) (votesTold (votedOn k l v) an)
 
--- 10000·major + 100·minor + patch: 1.5.0
+-- 10000·major + 100·minor + patch: 1.6.0
 abbrev pub version : ℕ
 version = 10600

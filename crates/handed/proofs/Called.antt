@@ -1,6 +1,5 @@
 -- Where `altuliscia_c`, `altuliscia_nu` or `altuliscia_one_class` answers 0: what stays with a sample, and the box. Assumes nothing.
 use Prim.Native.Nat.{ℕ, _<_}
-use mathlib.Core.Bool.{true}
 use mathlib.Core.List.{List}
 use mathlib.Core.Path.{_≡_}
 use lib.Ieee.{nan, binary64}
@@ -17,7 +16,7 @@ use Rattle.promises.proofs.Boxes.{c-box, c-no-nan, c-home-box, nu-box, nu-no-na
 use Rattle.promises.proofs.Entries.{c-travels, nu-travels, one-class-travels, c-ceilings}
 use Rattle.rounding.specs.Units.{NotNan}
 use Rattle.travel.specs.Home.{lastLeft}
-use Rattle.modes.specs.Modes.{travels}
+use Rattle.modes.specs.declared.Mode.the-variants.{Travelling}
 use Rattle.travel.specs.Travel.{Travelled, OwnCeilings}
 use Rattle.tuning.specs.declared.Tuning.{Tuning}
 use Rattle.handed.specs.Trains.{cTrains, nuTrains, oneClassTrains}
@@ -32,7 +31,7 @@ module _ (tune : Tuning) (n : ℕ) (m l : List ℕ) (cpos cneg eps shrinking bud
       c-travels tune n m l (asFloat cpos) (asFloat cneg) (asFloat eps) (isOn shrinking) budget room (x .0) (x .1)
 
   -- where ceilings travel
-  pub c-called-ceilings : travels (tune .mode) ≡ true → (t : ℕ) → OwnCeilings n (λ s. costOf (asFloat cpos) (asFloat cneg) (getD l s 0)) (after (cTrains tune n l cpos cneg eps shrinking) m room t .state)
+  pub c-called-ceilings : tune .mode ≡ Travelling → (t : ℕ) → OwnCeilings n (λ s. costOf (asFloat cpos) (asFloat cneg) (getD l s 0)) (after (cTrains tune n l cpos cneg eps shrinking) m room t .state)
   c-called-ceilings =
       let x = c-called tune n m l cpos cneg eps shrinking budget cr h an z in
       c-ceilings tune n m l (asFloat cpos) (asFloat cneg) (asFloat eps) (isOn shrinking) budget room (x .0) (x .1)

@@ -40,10 +40,11 @@ use Rattle.finder.proofs.Doubles.{Double}
 use Rattle.promises.proofs.Doubles.{coefficient-doubled, served-own-double}
 use Rattle.promises.proofs.Home.{served-home}
 use Rattle.promises.proofs.Numbers.{general-sized-number, c-sized-number, nu-sized-number, one-class-sized-number, some-number}
-use Rattle.promises.proofs.Travel.{Served, served-travels, served-ceilings}
+use Rattle.promises.proofs.Travel.{Served, served-travels, travelling-travels, served-ceilings}
 use Rattle.rounding.specs.Units.{NotNan}
 use Rattle.travel.specs.Home.{lastLeft}
 use Rattle.modes.specs.Modes.{travels}
+use Rattle.modes.specs.declared.Mode.the-variants.{Travelling}
 use Rattle.travel.specs.Travel.{Travelled, OwnCeilings}
 use Rattle.wire.specs.Wire.{digits, floatAt}
 use Rattle.tuning.specs.declared.Tuning.{Tuning}
@@ -184,8 +185,8 @@ module _ (tune : Tuning) (n : ℕ) (m l c a p : List ℕ) (nurule eps shrinking 
   general-called-travels = served-travels (general-ran .2 .served)
 
   -- where ceilings travel
-  pub general-called-ceilings : travels (tune .mode) ≡ true → (t : ℕ) → OwnCeilings n (λ s. getD (floatsOf c n) s nan) (after (generalTrains tune n l c a p nurule eps shrinking) m room t .state)
-  general-called-ceilings = served-ceilings (general-ran .2 .served)
+  pub general-called-ceilings : tune .mode ≡ Travelling → (t : ℕ) → OwnCeilings n (λ s. getD (floatsOf c n) s nan) (after (generalTrains tune n l c a p nurule eps shrinking) m room t .state)
+  general-called-ceilings h = served-ceilings (general-ran .2 .served) (ap travels h ∙ travelling-travels)
 
   -- the box, where every lent ceiling is b
   module _ (b : Float) (fit : T (fits binary64 b)) (same : (i : ℕ) → i < n → getD (floatsOf c n) i nan ≡ b) where

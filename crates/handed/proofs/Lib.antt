@@ -6,6 +6,7 @@ pub mod Retired
 pub mod Leaves
 pub mod Threshold
 pub mod Trail
+pub mod Travelling
 pub mod Pair
 pub mod Tuned
 pub mod Modes

@@ -2,7 +2,7 @@
 use Prim.Native.Nat.{ℕ, _<_}
 use mathlib.Core.Bool.{Bool, true, _&&_}
 use mathlib.Core.List.{List}
-use mathlib.Core.Path.{_≡_, refl, _∙_}
+use mathlib.Core.Path.{_≡_, refl, ap, _∙_}
 use lib.Dec.{eqb}
 use lib.Ieee.{Float, nan}
 use lib.ListN.{length, getD}
@@ -19,13 +19,14 @@ use Rattle.judge.specs.declared.Judged.the-variants.{Fine}
 use Rattle.judge.proofs.Accepted.{floor-fine}
 use Rattle.judge.proofs.Lengths.{room-of}
 use Rattle.modes.specs.Modes.{travels}
+use Rattle.modes.specs.declared.Mode.the-variants.{Travelling}
 use Rattle.state.specs.Fields.{sample}
 use Rattle.travel.specs.Travel.{Travelled, OwnCeilings}
 use Rattle.promises.specs.Fit.{Fit, generalFit, cFit, nuFit, oneClassFit, after, ownWeight}
 use Rattle.classification.proofs.Accepts.{entered-in, decided-in}
 use Rattle.tuning.specs.declared.Tuning.{Tuning}
 use Rattle.promises.proofs.Home.{served-home}
-use Rattle.promises.proofs.Travel.{Served, served-travels, served-ceilings}
+use Rattle.promises.proofs.Travel.{Served, served-travels, travelling-travels, served-ceilings}
 
 -- the fit k over the lent lists
 abbrev fittedTo : Fit → List ℕ → ℕ → Lent → Whole
@@ -68,8 +69,8 @@ module _ (tune : Tuning) (n : ℕ) (m l : List ℕ) (c a p : List Float) (nurule
   pub general-travels : (t : ℕ) → Travelled n (λ s. getD l s 0) (λ s. getD p s nan) (after (generalFit tune n l c a p nurule eps shrinking) m d t .state)
   general-travels = served-travels general-served
 
-  pub general-ceilings : travels (tune .mode) ≡ true → (t : ℕ) → OwnCeilings n (λ s. getD c s nan) (after (generalFit tune n l c a p nurule eps shrinking) m d t .state)
-  general-ceilings = served-ceilings general-served
+  pub general-ceilings : tune .mode ≡ Travelling → (t : ℕ) → OwnCeilings n (λ s. getD c s nan) (after (generalFit tune n l c a p nurule eps shrinking) m d t .state)
+  general-ceilings h = served-ceilings general-served (ap travels h ∙ travelling-travels)
 
 -- ---- C
 
@@ -106,10 +107,10 @@ module _ (tune : Tuning) (n : ℕ) (m l : List ℕ) (cpos cneg eps : Float) (shr
   c-travels = served-travels c-served
 
   -- a position's ceiling is that of its sample's label
-  pub c-ceilings : travels (tune .mode) ≡ true → (t : ℕ) → OwnCeilings n (λ s. costOf cpos cneg (getD l s 0)) (after (cFit tune n l cpos cneg eps shrinking) m d t .state)
+  pub c-ceilings : tune .mode ≡ Travelling → (t : ℕ) → OwnCeilings n (λ s. costOf cpos cneg (getD l s 0)) (after (cFit tune n l cpos cneg eps shrinking) m d t .state)
   c-ceilings h t k z =
       let w = after (cFit tune n l cpos cneg eps shrinking) m d t .state in
-      served-ceilings c-served h t k z ∙ cost-at n (sample w k) (c-served .room .most) (c-travels t .order .within .below k z) cpos cneg l
+      served-ceilings c-served (ap travels h ∙ travelling-travels) t k z ∙ cost-at n (sample w k) (c-served .room .most) (c-travels t .order .within .below k z) cpos cneg l
 
 -- ---- nu
 

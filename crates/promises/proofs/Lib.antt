@@ -16,4 +16,6 @@ pub mod Leaves
 pub mod Doubles
 pub mod Iterations
 pub mod Trail
+pub mod Travelling
+pub mod Unrepaired
 pub mod Still

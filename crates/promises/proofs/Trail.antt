@@ -14,7 +14,7 @@ use Rattle.answer.specs.declared.Answer.{Answer}
 use Rattle.answer.specs.declared.Outcome.the-variants.{Accepted}
 use Rattle.answer.specs.Solved.{stuck}
 use Rattle.boxrun.proofs.Owned.{Owned, runs-owned}
-use Rattle.classification.specs.Entries.{generalOf, fitCOf, fitNuOf, fitOneClassOf}
+use Rattle.classification.specs.Entries.{generalTuned, fitCTuned, fitNuTuned, fitOneClassTuned, generalOf, fitCOf, fitNuOf, fitOneClassOf}
 use Rattle.classification.specs.Still.{Still}
 use Rattle.classification.proofs.Still.{runs-still}
 use Rattle.extreme.specs.declared.Choice.the-variants.{Pair}
@@ -41,6 +41,7 @@ use Rattle.update.specs.Update.{ceilingIn, ceiling, pairAt, updatedState}
 use Rattle.update.specs.declared.Pair as Update
 use Rattle.update.proofs.Left.{alpha-i, alpha-j, alpha-other, gradient-active}
 use Rattle.tuning.specs.Tuning.{plainTuning}
+use Rattle.tuning.specs.declared.Tuning.{Tuning}
 use Rattle.promises.specs.Fit.{Fit, generalFit, cFit, nuFit, oneClassFit, startFrom, after, weightAfter, pairAfter, stepsTaken, rOf}
 use Rattle.promises.specs.Trail.{foundAt, laterSteps, gradientAfter, labelLent, entryLent, foundAfter, StepsWith, ShownStep, FoundStep, Trailed, noStep}
 use Rattle.promises.proofs.Alike.{home-own}
@@ -232,26 +233,26 @@ module _ {k : Fit} {m : List ℕ} {budget : ℕ} {d : Lent} {o : Whole} (v : Ser
     steps-on = steps-begin k m d budget;
   }
 
--- ---- each entry: the finder's steps, and with shrinking off the trail
+-- ---- each entry: the finder's steps, by any tuning with the usual floor; and with shrinking off the trail
 
-pub general-found : (n : ℕ) (m l : List ℕ) (c a p : List Float) (nurule : Bool) (eps : Float) (shrinking : Bool) (budget : ℕ) (d : Lent) (x : Answer)
-    → generalOf n m l c a p nurule eps shrinking budget d .out ≡ Accepted x → (q : ℕ) → q < x .iterations → FoundStep (generalFit plainTuning n l c a p nurule eps shrinking) m d budget q
-general-found n m l c a p nurule eps shrinking budget d x e q h =
-    let v = general-served plainTuning n m l c a p nurule eps shrinking budget d x e in served-found v refl q (rw (served-iterations v x e .0) at h)
+pub general-found : (tune : Tuning) → tune .floor ≡ floor → (n : ℕ) (m l : List ℕ) (c a p : List Float) (nurule : Bool) (eps : Float) (shrinking : Bool) (budget : ℕ) (d : Lent) (x : Answer)
+    → generalTuned tune n m l c a p nurule eps shrinking budget d .out ≡ Accepted x → (q : ℕ) → q < x .iterations → FoundStep (generalFit tune n l c a p nurule eps shrinking) m d budget q
+general-found tune plain n m l c a p nurule eps shrinking budget d x e q h =
+    let v = general-served tune n m l c a p nurule eps shrinking budget d x e in served-found v plain q (rw (served-iterations v x e .0) at h)
 
-pub c-found : (n : ℕ) (m l : List ℕ) (cpos cneg eps : Float) (shrinking : Bool) (budget : ℕ) (d : Lent) (x : Answer) → fitCOf n m l cpos cneg eps shrinking budget d .out ≡ Accepted x
-    → (q : ℕ) → q < x .iterations → FoundStep (cFit plainTuning n l cpos cneg eps shrinking) m d budget q
-c-found n m l cpos cneg eps shrinking budget d x e q h =
-    let v = c-served plainTuning n m l cpos cneg eps shrinking budget d x e in served-found v refl q (rw (served-iterations v x e .0) at h)
+pub c-found : (tune : Tuning) → tune .floor ≡ floor → (n : ℕ) (m l : List ℕ) (cpos cneg eps : Float) (shrinking : Bool) (budget : ℕ) (d : Lent) (x : Answer) → fitCTuned tune n m l cpos cneg eps shrinking budget d .out ≡ Accepted x
+    → (q : ℕ) → q < x .iterations → FoundStep (cFit tune n l cpos cneg eps shrinking) m d budget q
+c-found tune plain n m l cpos cneg eps shrinking budget d x e q h =
+    let v = c-served tune n m l cpos cneg eps shrinking budget d x e in served-found v plain q (rw (served-iterations v x e .0) at h)
 
-pub nu-found : (n : ℕ) (m l : List ℕ) (nu eps : Float) (shrinking : Bool) (budget : ℕ) (d : Lent) (x : Answer) → fitNuOf n m l nu eps shrinking budget d .out ≡ Accepted x
-    → (q : ℕ) → q < x .iterations → FoundStep (nuFit plainTuning n l nu eps shrinking) m d budget q
-nu-found n m l nu eps shrinking budget d x e q h = let v = nu-served plainTuning n m l nu eps shrinking budget d x e in served-found v refl q (rw (served-iterations v x e .0) at h)
+pub nu-found : (tune : Tuning) → tune .floor ≡ floor → (n : ℕ) (m l : List ℕ) (nu eps : Float) (shrinking : Bool) (budget : ℕ) (d : Lent) (x : Answer) → fitNuTuned tune n m l nu eps shrinking budget d .out ≡ Accepted x
+    → (q : ℕ) → q < x .iterations → FoundStep (nuFit tune n l nu eps shrinking) m d budget q
+nu-found tune plain n m l nu eps shrinking budget d x e q h = let v = nu-served tune n m l nu eps shrinking budget d x e in served-found v plain q (rw (served-iterations v x e .0) at h)
 
-pub one-class-found : (n : ℕ) (m : List ℕ) (nu eps : Float) (shrinking : Bool) (budget : ℕ) (d : Lent) (x : Answer) → fitOneClassOf n m nu eps shrinking budget d .out ≡ Accepted x
-    → (q : ℕ) → q < x .iterations → FoundStep (oneClassFit plainTuning n nu eps shrinking) m d budget q
-one-class-found n m nu eps shrinking budget d x e q h =
-    let v = one-class-served plainTuning n m nu eps shrinking budget d x e in served-found v refl q (rw (served-iterations v x e .0) at h)
+pub one-class-found : (tune : Tuning) → tune .floor ≡ floor → (n : ℕ) (m : List ℕ) (nu eps : Float) (shrinking : Bool) (budget : ℕ) (d : Lent) (x : Answer) → fitOneClassTuned tune n m nu eps shrinking budget d .out ≡ Accepted x
+    → (q : ℕ) → q < x .iterations → FoundStep (oneClassFit tune n nu eps shrinking) m d budget q
+one-class-found tune plain n m nu eps shrinking budget d x e q h =
+    let v = one-class-served tune n m nu eps shrinking budget d x e in served-found v plain q (rw (served-iterations v x e .0) at h)
 
 pub general-trail : (n : ℕ) (m l : List ℕ) (c a p : List Float) (nurule : Bool) (eps : Float) (budget : ℕ) (d : Lent) (x : Answer) → generalOf n m l c a p nurule eps false budget d .out ≡ Accepted x
     → Trailed (generalFit plainTuning n l c a p nurule eps false) m d budget (x .iterations) (generalOf n m l c a p nurule eps false budget d .left .home)

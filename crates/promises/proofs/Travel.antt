@@ -3,7 +3,7 @@
 use Prim.Native.Nat.{ℕ, _+_, _*_}
 use mathlib.Core.Bool.{true}
 use mathlib.Core.List.{List}
-use mathlib.Core.Path.{_≡_, sym, ap, _∙_}
+use mathlib.Core.Path.{_≡_, refl, sym, ap, _∙_}
 use native.Mathlib.Omega.{arith}
 use lib.Ieee.{nan}
 use lib.ListN.{length, getD}
@@ -13,6 +13,7 @@ use Rattle.classification.proofs.Laws.{Usable}
 use Rattle.fits.proofs.Loaded.{ready-loaded, sample-loaded, index-loaded, label-loaded, linear-loaded, ceiling-loaded}
 use Rattle.judge.specs.Sizes.{Room}
 use Rattle.modes.specs.Modes.{travels}
+use Rattle.modes.specs.declared.Mode.the-variants.{Travelling}
 use Rattle.solver.specs.Run.{problemOf}
 use Rattle.solver.specs.declared.Given.{Given}
 use Rattle.state.specs.Fields.{sample}
@@ -30,6 +31,10 @@ pub record Served (k : Fit) (m : List ℕ) (budget : ℕ) (d : Lent) (o : Whole)
   pub room : Room (k .given .n) (length m) (length (d .crate)) (length (d .home)) (length (d .floats)) (length (d .numbers)) (length (d .bytes))
   pub usable : Usable (k .given .n) m budget
   pub same : o ≡ fitted (k .given) (k .how) m (k .labels) (k .ceilings) (k .weights) (k .terms) budget d
+
+pub travelling-travels : travels Travelling ≡ true
+unfolding travels
+travelling-travels = refl
 
 module _ {k : Fit} {m : List ℕ} {budget : ℕ} {d : Lent} {o : Whole} (v : Served k m budget d o) where
   abbrev g : Given

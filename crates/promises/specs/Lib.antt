@@ -5,3 +5,4 @@ pub mod Leaves
 pub mod Numbers
 pub mod Trail
 pub mod Still
+pub mod Travelling

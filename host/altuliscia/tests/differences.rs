@@ -118,6 +118,36 @@ fn unequal_ceilings_have_no_box() {
     let above = (4, vec![1.0, 1.0000000000000002, 0.0, 2.0]);
     assert_eq!(classes.crates(true), above);
     assert_eq!(classes.travelling(true), above);
+    let unit = f64::EPSILON;
+    let two = Ceilings {
+        matrix: &[1.0, 0.0, 0.0, 1.0],
+        labels: &[0, 0],
+        ceilings: &[1.75 + 3.0 * unit, 0.75 + unit / 2.0],
+        alphas: &[1.75 + 3.0 * unit, 0.75],
+        linear: &[10.0, -10.0],
+    };
+    let above = (1, vec![1.75 + 4.0 * unit, 0.75 + unit / 2.0]);
+    assert_eq!(two.crates(false), above);
+    assert_eq!(two.travelling(true), above);
+}
+
+/// The problem of the C entry with cpos 10 and cneg 1: a moved sample's weight ends below 0.
+#[test]
+fn a_moved_sample_may_end_below_0() {
+    let moved = Ceilings {
+        matrix: &[10, -6, -4, 7, -6, 10, -4, -5, -4, -4, 8, -2, 7, -5, -2, 5].map(f64::from),
+        labels: &[0, 0, 0, 1],
+        ceilings: &[1.0, 1.0, 1.0, 10.0],
+        alphas: &[0.0; 4],
+        linear: &[-1.0; 4],
+    };
+    let small = 0.31354804365184985;
+    assert_eq!(
+        moved.crates(true),
+        (5, vec![1.0, -0.3135480436518501, small, 1.0])
+    );
+    let own = [1.0, 0.09966462603140805, small, 1.4132126696832579];
+    assert_eq!(moved.travelling(true), (100, own.to_vec()));
 }
 
 #[test]
