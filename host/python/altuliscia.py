@@ -19,7 +19,8 @@ target, else in target/native, else in target/staticlib. Nothing but Python's st
 
 What is refused is told by a Refusal, which is a ValueError; what is no number at all, by a TypeError. What is answered and shouldn't be
 used without a second look warns, by a Doubtful: a fit that isn't `releasable` (its `unfit` says why), an infeasible nu, a kernel that
-isn't symmetric, a cost given for one class alone, a weight above its ceiling, shrinking, and what is sorted by a value that isn't finite.
+isn't symmetric, a cost given for one class alone, a weight above its ceiling or below 0, shrinking, and what is sorted by a value that
+isn't finite.
 Python's own filter shows a warning once for each line that calls: warnings.simplefilter("always", altuliscia.Doubtful) shows them all.
 
     >>> altuliscia.fit_c([[1, 0], [float("nan"), 1]], [1, 0])
@@ -80,8 +81,8 @@ from collections import namedtuple
 from itertools import combinations
 
 import altuliscia_taken as _taken
-from altuliscia_answers import (SENTENCES as _SENTENCES, SUPPORT_LIMIT, AboveCeiling, Asymmetric, Doubtful, Fit, InfeasibleNu, NotFinite, NoVotes,
-                                NotReleasable, OneCost, Refusal, Shrinking, Votes, signed as _signed, warn as _warn)
+from altuliscia_answers import (SENTENCES as _SENTENCES, SUPPORT_LIMIT, AboveCeiling, Asymmetric, BelowZero, Doubtful, Fit, InfeasibleNu, NotFinite,
+                                NoVotes, NotReleasable, OneCost, Refusal, Shrinking, Votes, signed as _signed, warn as _warn)
 
 __version__ = "1.6.0"
 
@@ -106,8 +107,8 @@ _PASSES = _taken.UsualInt(MOST_PASSES)
 def fit_c(matrix, labels, cpos=_ONE, cneg=_ONE, *, eps=_EPS, shrinking=False, budget=_PASSES, retired=None, floor=USUAL_FLOOR, C=None,
           tol=None, max_iter=None, travelling=False):
     """Trains two classes; `cpos` is the ceiling of positive samples and `cneg` that of negative ones, `C` both. With two that differ a
-    weight may end above its ceiling, which is promised of one common ceiling alone: see `above_ceiling`. Where one of them is given and
-    the other left at 1, a OneCost warns.
+    weight may end above its ceiling or below 0, as the box is promised of one common ceiling alone: see `above_ceiling` and
+    `below_zero`. Where one of them is given and the other left at 1, a OneCost warns.
 
     eps        the run ends where no pair breaks the conditions by this much; `tol` is the same
     shrinking  whether samples that seem settled are put aside; where it is on, a run may end in refusal 11, and one that doesn't warns
@@ -187,6 +188,8 @@ def _judged(fit, problem, options):
     _shrunk(options)
     if fit.above_ceiling:
         _warn(AboveCeiling, f"a weight is above its ceiling, which can't be with equal ceilings: samples {fit.above_ceiling}")
+    if fit.below_zero:
+        _warn(BelowZero, f"a weight is below 0, for the other class, and with equal ceilings none can be: samples {fit.below_zero}")
     if not fit.releasable:
         _warn(NotReleasable, f"this fit isn't to be released: {fit.unfit}")
     return fit
@@ -213,7 +216,7 @@ def _fit_c(problem, costs, options):
     (_, cpos), (_, cneg) = costs
     given, n, marks, gone = (_bits(cpos), _bits(cneg)), problem.n, problem.marks, problem.gone
     ceilings = [float(cpos if mark else cneg) for mark in marks]
-    told = {"classes": problem.classes, "ceilings": None if cpos == cneg else ceilings}
+    told = {"classes": problem.classes, "ceilings": None if cpos == cneg else ceilings, "marks": marks}
     if not gone:
         return Fit(*_asked(problem, "altuliscia_c_tuned", problem.lent(), given, options, costs=costs), **told)
     # One pass of the C fit, for its refusals: there a bad cpos or cneg is told as such, not as a sample's ceiling. Travelling is refused

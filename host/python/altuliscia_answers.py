@@ -106,6 +106,12 @@ class AboveCeiling(Doubtful):
     __module__ = "altuliscia"
 
 
+class BelowZero(Doubtful):
+    """A weight below 0 before it is signed, which unequal ceilings allow: it speaks for the other class."""
+
+    __module__ = "altuliscia"
+
+
 class Shrinking(Doubtful):
     """A fit with shrinking on: docs/PROMISES.md says to train with it off."""
 
@@ -157,18 +163,19 @@ class Fit:
     rho, r, obj     offset, scale of the nu rule (None without it), objective
     support_count   how many weights are above 100*2^-52 in magnitude, as the library counts them; a NaN isn't. support_ also has the
                     smaller ones, which a decision needs
-    one_ceiling     whether all samples had one ceiling, so that no weight can be above it
-    above_ceiling   the samples whose weight is above their ceiling all the same
+    one_ceiling     whether all samples had one ceiling, so that no weight can be above it or below 0
+    above_ceiling   the samples whose weight, before it is signed, is above their ceiling all the same
+    below_zero      those whose weight is below 0 before it is signed, so that it then has the other class's sign
 
     retired_ has the numbers of the retired samples, in their order; their weight is 0.
     """
 
     __module__ = "altuliscia"
     # What a pickle of an older version hasn't.
-    classes_, signs, one_ceiling, above_ceiling = [0, 1], None, True, []
+    classes_, signs, one_ceiling, above_ceiling, below_zero = [0, 1], None, True, [], []
 
     def __init__(self, home, crate_reading, rho, r, obj, iterations, reason, retired=(), support=None, *, classes=(0, 1), signs=None,
-                 ceilings=None):
+                 ceilings=None, marks=None):
         self.home = home
         self.crate_reading = crate_reading
         self.rho = rho
@@ -186,7 +193,10 @@ class Fit:
         self.n_iter_ = [iterations]
         self.fit_status_ = reason
         self.one_ceiling = ceilings is None
-        self.above_ceiling = [k for k, ceiling in enumerate(ceilings or ()) if abs(home[k]) > ceiling]
+        # The labels that home is signed by, if it is, are taken off.
+        bare = home if marks is None else signed(home, marks, ())
+        self.above_ceiling = [k for k, ceiling in enumerate(ceilings or ()) if bare[k] > ceiling]
+        self.below_zero = [k for k, weight in enumerate(bare) if weight < 0.0 and not self.one_ceiling]
 
     def __repr__(self):
         unfit = self.unfit
@@ -209,15 +219,16 @@ class Fit:
             why.append(f"the run ended for the reason {self.fit_status_}, which is newer than this file")
         if not math.isfinite(self.rho):
             why.append(f"rho is {self.rho!r}")
-        if self.r is not None and (self.r == 0.0 or not math.isfinite(self.r)):
-            why.append(f"r is {self.r!r}")
+        if self.r is not None and not _divides(self.r):
+            why.append(f"r is {self.r!r}" + _undivided(self.r))
         if self.support_count == 0:
             why.append("there is no support vector")
         return "; ".join(why) or None
 
     @property
     def releasable(self):
-        """Whether it may be released: it ended at the threshold, rho is finite, under nu r too and isn't 0, and something supports it."""
+        """Whether it may be released: it ended at the threshold, rho is finite, under nu r and 1/r are, too, and above 0, and something
+        supports it."""
         return self.unfit is None
 
     def decision_function(self, rows):
@@ -276,6 +287,18 @@ class Fit:
     def score(self, rows, labels):
         """The share of rows that `predict` gives their label."""
         return share(self.predict(rows), labels, self.classes_)
+
+
+def _divides(r):
+    """Whether weights may be divided by r: those of fit_nu, none of which is above 1 before, are then finite and have their class's sign."""
+    return 0.0 < r < math.inf and 1.0 / r < math.inf
+
+
+def _undivided(r):
+    """What is wrong with an r that doesn't divide, where its digits don't say it."""
+    if not math.isfinite(r) or r == 0.0:
+        return ""
+    return ", below 0: a weight divided by it has the other class's sign" if r < 0.0 else ", so near 0 that a weight of 1 divided by it is infinite"
 
 
 def _sum(weights, values):

@@ -6,8 +6,8 @@ import unittest
 import warnings
 from array import array
 
-from altuliscia import (AboveCeiling, Asymmetric, Doubtful, Fit, InfeasibleNu, NotFinite, NotReleasable, OneCost, Refusal, Shrinking, fit_c, fit_general,
-                        fit_nu, fit_one_class)
+from altuliscia import (AboveCeiling, Asymmetric, BelowZero, Doubtful, Fit, InfeasibleNu, NotFinite, NotReleasable, OneCost, Refusal, Shrinking, fit_c,
+                        fit_general, fit_nu, fit_one_class)
 from altuliscia_languages import fit_languages
 from altuliscia_taken import unlike
 from altuliscia_trail import trail_general
@@ -16,6 +16,9 @@ from test_altuliscia import IDENTITY, identity
 # Four samples on a line, which take some steps.
 LINE = [[x * y + 1.0 for y in (1, 2, 3, 5)] for x in (1, 2, 3, 5)]
 SIDES = [1, 1, 0, 0]
+# What is said of an r by which nothing is to be divided.
+TURNED = ", below 0: a weight divided by it has the other class's sign"
+TINY = ", so near 0 that a weight of 1 divided by it is infinite"
 
 
 def warned(call):
@@ -69,12 +72,32 @@ class Released(Doubts):
         for change, why in (
             ({}, None), ({"reason": 1}, "the budget ran out after 7 steps"), ({"r": 0.0}, "r is 0.0"), ({"r": -0.0}, "r is -0.0"),
             ({"r": math.nan}, "r is nan"), ({"r": -math.inf}, "r is -inf"), ({"rho": math.nan}, "rho is nan"), ({"rho": math.inf}, "rho is inf"),
-            ({"support": 0}, "there is no support vector"), ({"r": None}, None), ({"r": -2.0}, None),
+            ({"support": 0}, "there is no support vector"), ({"r": None}, None), ({"r": -2.0}, f"r is -2.0{TURNED}"),
+            ({"r": -1e-309}, f"r is -1e-309{TURNED}"), ({"r": 1e-309}, f"r is 1e-309{TINY}"), ({"r": 1e308}, None),
+            # The next double above 2^-1024 is the first that divides 1.
+            ({"r": 2.0 ** -1024}, f"r is {2.0 ** -1024!r}{TINY}"), ({"r": 2.0 ** -1024 + 5e-324}, None),
             ({"reason": 2}, "the run ended for the reason 2, which is newer than this file"),
         ):
             one = {**good, **change}
             fit = Fit([1.0], [1.0], one["rho"], one["r"], 0.0, 7, one["reason"], (), one["support"])
             self.assertEqual((fit.unfit, fit.releasable), (why, why is None))
+
+    def test_turned(self):
+        # Points on a plane whose r is 0 but for a rounding: each weight has the other class's sign.
+        points, labels = [(0.1, 0), (-0.3, 0.1), (-0.2, 0.1), (0.2, -0.3), (0, 0.1), (0.3, 0.1)], [0, 1, 0, 1, 0, 1]
+        kernel = [[a * c + b * d for c, d in points] for a, b in points]
+        fit, told = self.warns([NotReleasable], lambda: fit_nu(kernel, labels, 0.2, eps=1e-3))
+        self.assertTrue(fit.r < 0.0 and fit.fit_status_ == 0 and math.isfinite(fit.rho))
+        self.assertEqual((fit.unfit, fit.score(kernel, labels)), (f"r is {fit.r!r}{TURNED}", 0.0))
+        self.assertEqual(told, [f"this fit isn't to be released: {fit.unfit}"])
+        sorter, _ = self.warns([NotReleasable], lambda: fit_languages(kernel, labels, nu=0.2, eps=1e-3, languages=[1, 0]))
+        self.assertEqual(sorter.unfit, f"1 and 0: {fit.unfit}")
+
+    def test_too_small_a_scale(self):
+        kernel = [[1e-309 * value for value in column] for column in ((3, 1, 0, 0), (1, 2, 0, 0), (0, 0, 2, 1), (0, 0, 1, 3))]
+        fit, told = self.warns([NotReleasable], lambda: fit_nu(kernel, [1, 1, 0, 0], 0.3))
+        self.assertEqual((fit.home[0], fit.unfit, fit.releasable), (math.inf, f"r is {fit.r!r}{TINY}", False))
+        self.assertTrue(fit_nu([[1e3 * value for value in column] for column in kernel], [1, 1, 0, 0], 0.3).releasable)
 
     def test_shown(self):
         self.assertEqual(repr(fit_c(IDENTITY, [1, 0])), "<Fit of 2 samples: 2 support vectors, rho 0.0, 1 steps, releasable>")
@@ -82,7 +105,7 @@ class Released(Doubts):
         self.assertIn(", 1 steps, ceilings differ, not releasable: the budget ran out after 1 steps>", repr(fit))
 
     def test_kinds(self):
-        for kind in (NotReleasable, InfeasibleNu, Asymmetric, OneCost, AboveCeiling, Shrinking, NotFinite):
+        for kind in (NotReleasable, InfeasibleNu, Asymmetric, OneCost, AboveCeiling, BelowZero, Shrinking, NotFinite):
             self.assertTrue(issubclass(kind, Doubtful) and issubclass(kind, UserWarning))
             self.assertEqual(kind.__module__, "altuliscia")
         with warnings.catch_warnings():
@@ -240,7 +263,24 @@ class Told(Doubts):
             (fit_general(LINE, SIDES, [2] * 4, [0] * 4, [-1] * 4), True), (fit_general(LINE, SIDES, [2, 2, 1, 2], [0] * 4, [-1] * 4), False),
             (fit_general(LINE, SIDES, [2, 2, 1, 2], [0] * 4, [-1] * 4, retired=[2]), True), (fit_c(LINE, SIDES, 2, 1, retired=[0]), False),
         ):
-            self.assertEqual((fit.one_ceiling, fit.above_ceiling), (same, []))
+            self.assertEqual((fit.one_ceiling, fit.above_ceiling, fit.below_zero), (same, [], []))
+
+    def test_below_zero(self):
+        # Shrinking moves sample 1 to a place with another ceiling.
+        matrix, labels = [[10, -6, -4, 7], [-6, 10, -4, -5], [-4, -4, 8, -2], [7, -5, -2, 5]], [0, 0, 0, 1]
+        fit, told = self.warns([Shrinking, BelowZero], lambda: fit_c(matrix, labels, 10, 1, eps=1e-3, shrinking=True))
+        self.assertEqual((fit.home[1], fit.below_zero, fit.above_ceiling), (0.3135480436518501, [1], []))
+        self.assertEqual(told[1], "a weight is below 0, for the other class, and with equal ceilings none can be: samples [1]")
+        lists = [1, 1, 1, 10], [0] * 4, [-1] * 4
+        fit, _ = self.warns([Shrinking, BelowZero], lambda: fit_general(matrix, labels, *lists, eps=1e-3, shrinking=True))
+        self.assertEqual((fit.home[1], fit.below_zero, fit.above_ceiling), (-0.3135480436518501, [1], []))
+        self.warns([Shrinking], lambda: fit_c(matrix, labels, 10, 1, eps=1e-3, shrinking=True, travelling=True))
+        # However far below 0, it is below its ceiling; a zero isn't below.
+        for home, marks in (([-7.0, -0.0, -1.0, 2.0], None), ([7.0, -0.0, 1.0, 2.0], bytes([0, 1, 0, 1])), ([7.0, 0.0, 1.0, 2.0], bytes([0, 0, 0, 1]))):
+            fit = Fit(home, home, 0.5, None, 0.0, 7, 0, marks=marks, ceilings=[1.0] * 3 + [1.5])
+            self.assertEqual((fit.below_zero, fit.above_ceiling), ([0, 2], [3]))
+        # Under nu, and of one class, none is marked.
+        self.assertEqual([fit_nu(LINE, SIDES, 0.3).below_zero, fit_one_class(LINE).below_zero], [[], []])
 
 
 class Words(unittest.TestCase):

@@ -319,11 +319,12 @@ class Pickles(unittest.TestCase):
     def test_of_an_older_version(self):
         fit = fit_c(LINE, SIDES)
         kept = vars(fit).copy()
-        for name in ("classes_", "signs", "one_ceiling", "above_ceiling"):
+        for name in ("classes_", "signs", "one_ceiling", "above_ceiling", "below_zero"):
             del kept[name]
         back = Fit.__new__(Fit)
         vars(back).update(kept)
         self.assertEqual((back.predict(LINE), repr(back), back.releasable), (fit.predict(LINE), repr(fit), True))
+        self.assertEqual((back.above_ceiling, back.below_zero), ([], []))
 
     def test_workers(self):
         """Refusals come back from worker processes; a Pool hangs for ever where they can't be unpickled."""
