@@ -152,8 +152,23 @@ class Sorter:
         lent = [self._row(row, gone) for row in taken.rows(rows)]
         coefficients, rhos = [fit.coefficients for fit in self.fits], [fit.rho for fit in self.fits]
         found = altuliscia.votes_of_rows(len(self.classes_), coefficients, self.samples, rhos, lent)
-        doubt([k for k, row in enumerate(lent) if not all(map(math.isfinite, row))], "a kernel value of")
+        self._doubt([array("d", taken.doubles(row)) for row in lent])
         return found
+
+    def _doubt(self, rows):
+        """Warns of rows with a value that isn't finite, and of others with a sum that isn't."""
+        finite = [all(map(math.isfinite, row)) for row in rows]
+        doubt([k for k, fine in enumerate(finite) if not fine], "a kernel value of")
+        weight, offset = sum(abs(x) for fit in self.fits for x in fit.coefficients), sum(abs(fit.rho) for fit in self.fits)
+
+        def decides(row):
+            # No decision is larger than this. Where it may be near the largest double, or is NaN, each is formed again.
+            if weight * max(map(abs, row)) + offset < 1e308:
+                return True
+            pairs = zip(self.fits, self.samples)
+            return all(math.isfinite(fit.decision_function([[row[k] for k in numbers]])[0]) for fit, numbers in pairs)
+
+        doubt([k for k, row in enumerate(rows) if finite[k] and not decides(row)], "a decision on")
 
     def _row(self, row, gone):
         if not hasattr(row, "__len__"):

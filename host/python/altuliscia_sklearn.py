@@ -19,6 +19,7 @@ from sklearn.utils.multiclass import check_classification_targets
 from sklearn.utils.validation import check_is_fitted
 
 import altuliscia
+from altuliscia_answers import doubt
 from altuliscia_languages import fit_languages
 
 
@@ -101,6 +102,8 @@ class AltulisciaSVC(ClassifierMixin, BaseEstimator):
     def predict(self, X):
         """The class of each row of X."""
         found = self.decision_function(X)
+        if found.ndim == 1:
+            doubt(numpy.flatnonzero(~numpy.isfinite(found)).tolist(), "the decision on")
         return self.classes_[(found >= 0).astype(int) if found.ndim == 1 else found.argmax(axis=1)]
 
     def _more_tags(self):

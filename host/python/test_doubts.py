@@ -251,6 +251,30 @@ class Told(Doubts):
         # Decisions show it themselves.
         self.warns([], lambda: fit.decision_function(spoilt))
 
+    def test_sums_not_finite(self):
+        """Every kernel value is finite here."""
+        fit, sorter = fit_c(LINE, SIDES, C=100), fit_languages(LINE, SIDES, C=100, retired=[])
+        good, large = [1.0, 2.0, 3.0, 4.0], [1.7e308, 1.7e308, -1.7e308, -1.7e308]
+        # A large value by itself is no doubt: each of these sums is finite.
+        fine = [[0.0, 0.0, 1e307, 0.0], [1e307] * 4, [-1e306, 1e306, 1e306, -1e306]]
+        self.assertTrue(all(map(math.isfinite, fit.decision_function([good] + fine))))
+        self.assertFalse(math.isfinite(fit.decision_function([large])[0]))
+        for call in (lambda: fit.predict([good] + fine), lambda: sorter.predict([good] + fine), lambda: sorter.votes([good] + fine)):
+            self.warns([], call)
+        for call, what in (
+            (lambda: fit.predict([good, large]), "the decision on"),
+            (lambda: sorter.predict([good, large]), "a decision on"),
+            (lambda: sorter.votes([good, large]), "a decision on"),
+            (lambda: sorter.score([good, large], SIDES[1:3]), "a decision on"),
+        ):
+            _, told = self.warns([NotFinite], call)
+            self.assertEqual(told, [f"{what} row 1, counted from 0, isn't finite: the label of such a row says nothing"])
+        _, told = self.warns([NotFinite, NotFinite], lambda: sorter.predict([large, good, [math.nan] * 4, large]))
+        self.assertTrue(told[0].startswith("a kernel value of row 2, counted") and told[1].startswith("a decision on row 0, and 1 more, counted"))
+        # A pair whose rho isn't finite decides nothing.
+        gone, _ = warned(lambda: fit_languages(LINE, SIDES, retired=[2, 3]))
+        self.warns([NotFinite], lambda: gone.predict([good]))
+
     def test_above_ceiling(self):
         # docs/DIFFERENCES.md, 'Unequal ceilings have no box': sample 1 ends above its ceiling by a rounding.
         matrix = [[3, 2, 0, 1], [2, 2, 2, 1], [0, 2, 2, 2], [1, 1, 2, 1]]

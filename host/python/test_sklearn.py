@@ -6,7 +6,7 @@ import sys
 import unittest
 from unittest import SkipTest, mock
 
-from altuliscia import NotReleasable, Refusal, fit_c
+from altuliscia import NotFinite, NotReleasable, Refusal, fit_c
 from altuliscia_languages import fit_languages
 from test_doubts import Doubts, warned
 
@@ -116,6 +116,16 @@ class Used(Doubts):
         self.assertEqual((trained.releasable_, trained.fit_status_), (False, 1))
         self.assertIn("0 and 1: the budget ran out after 3 steps", words[0])
         self.warns([], lambda: AltulisciaSVC().fit(kernel, y))
+
+    def test_sums_not_finite(self):
+        for classes, what in ((2, "the decision on"), (3, "a decision on")):
+            kernel, y, rows, _ = drawn(classes, 30)
+            trained = AltulisciaSVC(C=10).fit(kernel, y)
+            rows = rows[:3].copy()
+            rows[1, trained.support_[abs(trained.dual_coef_[0]).argmax()]] = 1.7e308
+            _, words = self.warns([NotFinite], lambda: trained.predict(rows))
+            self.assertEqual(words, [f"{what} row 1, counted from 0, isn't finite: the label of such a row says nothing"])
+            self.warns([], lambda: trained.predict(rows[:1]))
 
     def test_refused(self):
         kernel, y, _, _ = drawn(2, 20)
