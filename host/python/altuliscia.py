@@ -39,9 +39,9 @@ A sample whose caption was withdrawn is retired: the others are trained without 
 
 A kernel matrix is a list of n columns of n numbers each, an array of numpy, whose rows are taken as columns, or an object that holds its
 bytes: column by column, eight bytes for each double (array.array("d"), bytes). It need not be symmetric, but one that isn't warns. Labels
-are 1 (positive) and 0 (negative), or any two whole numbers or strings: the second in their order is positive, as in scikit-learn. `C`,
-`tol` and `max_iter` are scikit-learn's names of `cpos` and `cneg` in one, `eps` and `budget`. Retired numbers that can't be right are told
-by a TypeError or a plain ValueError, before anything is refused.
+are 1 (positive) and 0 (negative), or any two whole numbers or strings: the second in their order is positive, as in scikit-learn. `costs`
+gives fit_c a cost by label. `C`, `tol` and `max_iter` are scikit-learn's names of `cpos` and `cneg` in one, `eps` and `budget`. Retired
+numbers that can't be right are told by a TypeError or a plain ValueError, before anything is refused.
 
 Where the curvature of a pair isn't above 0, `floor` stands for it. Two samples with the same kernel values and different labels are
 such a pair, and a smaller floor takes longer steps along it:
@@ -105,10 +105,18 @@ _PASSES = _taken.UsualInt(MOST_PASSES)
 
 
 def fit_c(matrix, labels, cpos=_ONE, cneg=_ONE, *, eps=_EPS, shrinking=False, budget=_PASSES, retired=None, floor=USUAL_FLOOR, C=None,
-          tol=None, max_iter=None, travelling=False):
-    """Trains two classes; `cpos` is the ceiling of positive samples and `cneg` that of negative ones, `C` both. With two that differ a
-    weight may end above its ceiling or below 0, as the box is promised of one common ceiling alone: see `above_ceiling` and
-    `below_zero`. Where one of them is given and the other left at 1, a OneCost warns.
+          tol=None, max_iter=None, travelling=False, costs=None):
+    """Trains two classes; `cpos` is the ceiling of positive samples and `cneg` that of negative ones, `C` both. Positive is the second of
+    the two labels in their order: of 'cs' and 'sk' it is 'sk', whichever comes first in `labels`. `costs` has both by label instead:
+
+    >>> kernel, labels = [[1, 1, 0], [1, 1, 0], [0, 0, 1]], ["cs", "sk", "sk"]
+    >>> fit_c(kernel, labels, 10.0, 1.0).home == fit_c(kernel, labels, costs={"sk": 10.0, "cs": 1.0}).home
+    True
+    >>> fit_c(kernel, labels, costs={"cs": 10.0, "sk": 1.0}).home
+    [-2.0, 1.0, 1.0]
+
+    With two that differ a weight may end above its ceiling or below 0: that it can't is promised of one common ceiling alone. See
+    `above_ceiling` and `below_zero`. Where one of them is given and the other left at 1, a OneCost warns.
 
     eps        the run ends where no pair breaks the conditions by this much; `tol` is the same
     shrinking  whether samples that seem settled are put aside; where it is on, a run may end in refusal 11, and one that doesn't warns
@@ -120,10 +128,10 @@ def fit_c(matrix, labels, cpos=_ONE, cneg=_ONE, *, eps=_EPS, shrinking=False, bu
     travelling whether a sample keeps its own ceiling when shrinking moves it. With one common ceiling, and with shrinking off, the answer
                is the same either way. Where samples are retired it must be off (refusal 2)
     """
-    costs = _costs(cpos, cneg, C)
     options = _options(eps, tol, shrinking, budget, max_iter, floor, travelling)
     problem = _taken.Problem(matrix, labels, retired)
-    return _judged(_fit_c(problem, costs, options), problem, options)
+    given = _costs(cpos, cneg, C) if costs is None else _costs_of(costs, problem, cpos, cneg, C)
+    return _judged(_fit_c(problem, given, options), problem, options)
 
 
 def fit_nu(matrix, labels, nu=0.5, *, eps=_EPS, shrinking=False, budget=_PASSES, floor=USUAL_FLOOR, tol=None, max_iter=None):
@@ -171,6 +179,21 @@ def _costs(cpos, cneg, both):
         (one, cost), other = (("cpos", cpos), "cneg") if given[0] else (("cneg", cneg), "cpos")
         _warn(OneCost, f"{one} is {cost!r} and {other} isn't given, so it is 1.0: give both, or C={cost!r} for both classes")
     return ("cpos", cpos), ("cneg", cneg)
+
+
+def _costs_of(costs, problem, *others):
+    """The same two, out of a cost for each label."""
+    if not all(other is None or isinstance(other, _taken.Usual) for other in others):
+        raise TypeError("costs is given in place of cpos, cneg and C")
+    if not hasattr(costs, "keys"):
+        raise TypeError(f"costs has a cost for each label, as {{'cs': 10.0, 'sk': 1.0}}, not {costs!r:.40}")
+    if 2 in problem.marks:
+        # Of a label that can't be one the library tells, whatever it costs.
+        return _costs(1.0, 1.0, None)
+    found, (negative, positive) = dict(costs), problem.classes
+    if set(found) != {negative, positive}:
+        raise ValueError(f"costs needs the labels {negative!r} and {positive!r} and no other, not {', '.join(map(repr, found)) or 'none'}")
+    return tuple((f"costs[{label!r}]", found[label]) for label in (positive, negative))
 
 
 def _infeasible(problem, nu):

@@ -24,7 +24,7 @@ from array import array
 from collections import namedtuple
 
 import altuliscia
-from altuliscia import _EPS, _ONE, _PASSES, USUAL_FLOOR, Before, _costs, _options
+from altuliscia import _EPS, _ONE, _PASSES, USUAL_FLOOR, Before, _costs, _costs_of, _options
 from altuliscia_answers import signed
 from altuliscia_taken import Problem, flag
 
@@ -93,20 +93,20 @@ class Differs(RuntimeError):
 
 
 def trail_c(matrix, labels, cpos=_ONE, cneg=_ONE, *, sample, eps=_EPS, shrinking=False, budget=_PASSES, retired=None,
-            floor=USUAL_FLOOR, C=None, tol=None, max_iter=None):
+            floor=USUAL_FLOOR, C=None, tol=None, max_iter=None, costs=None):
     """The trail of one sample, by its number from 0 on, in what altuliscia.fit_c trains. What is refused there is refused here.
     Shrinking must be off: with it on, samples move. The floor must be the usual one: the pair finder has no other. A run may be looked at
     in the middle, so one that isn't to be released doesn't warn."""
-    costs = _costs(cpos, cneg, C)
     options = _options(eps, tol, shrinking, budget, max_iter, floor)
     problem = Problem(matrix, labels, retired)
+    given = _costs(cpos, cneg, C) if costs is None else _costs_of(costs, problem, cpos, cneg, C)
     kernel, marks, gone, n = problem.kernel, problem.marks, problem.gone, problem.n
 
     def fit(passes):
-        return altuliscia._fit_c(problem, costs, options._replace(budget=passes))
+        return altuliscia._fit_c(problem, given, options._replace(budget=passes))
 
     def replay():
-        ceilings = [float(costs[0 if mark else 1][1]) for mark in marks]
+        ceilings = [float(given[0 if mark else 1][1]) for mark in marks]
         return _Replay(kernel, marks, ceilings, [0.0] * n, [-1.0] * n, options.eps, retired=gone)
 
     return _trail(fit, replay, sample, options, lambda weights, r: signed(weights, marks, gone))

@@ -20,7 +20,7 @@ from unittest import mock
 import altuliscia
 from altuliscia import Fit, NoVotes, Refusal, find_pair, fit_c, fit_general, fit_nu, fit_one_class, votes, votes_of_rows
 from altuliscia_languages import fit_languages
-from altuliscia_trail import Differs
+from altuliscia_trail import Differs, trail_c
 from test_altuliscia import IDENTITY, Problem, bits, identity, setUpModule, tearDownModule, told  # noqa: F401
 from test_doubts import LINE, SIDES
 
@@ -62,6 +62,49 @@ class Names(unittest.TestCase):
             with self.assertRaises(TypeError) as caught:
                 fit_c(LINE, SIDES, *given, C=10.0, **options)
             self.assertEqual(str(caught.exception), f"{name} and C are two names of one thing: give one of them")
+
+    def test_costs_by_label(self):
+        for labels, low, high in ((["sk", "sk", "cs", "cs"], "cs", "sk"), (SIDES, 0, 1), ([3, 3, -3, -3], -3, 3), ([True, True, False, False], 0, 1)):
+            for options in ({}, {"retired": [0]}, {"eps": 1e-3}):
+                plain = told(fit_c(LINE, labels, 2.0, 0.5, **options))
+                for costs in ({low: 0.5, high: 2.0}, {high: 2, low: Fraction(1, 2)}):
+                    self.assertEqual(told(fit_c(LINE, labels, costs=costs, **options)), plain)
+            self.assertNotEqual(plain, told(fit_c(LINE, labels, costs={low: 2.0, high: 0.5})))
+            self.assertEqual(told(fit_c(LINE, labels, costs={low: 0.25, high: 0.25})), told(fit_c(LINE, labels, C=0.25)))
+        self.assertEqual(trail_c(LINE, SIDES, sample=2, costs={0: 0.5, 1: 2.0})[:-2], trail_c(LINE, SIDES, 2.0, 0.5, sample=2)[:-2])
+
+    def test_costs_not_taken(self):
+        labels, both = ["sk", "sk", "cs", "cs"], {"cs": 10.0, "sk": 1.0}
+        shown = "costs has a cost for each label, as {'cs': 10.0, 'sk': 1.0}, not "
+        needed = "costs needs the labels 'cs' and 'sk' and no other, not "
+        for given, options, kind, words in (
+            ((1.0, 1.0), {}, TypeError, "costs is given in place of cpos, cneg and C"),
+            ((), {"cneg": 1.0}, TypeError, "costs is given in place of cpos, cneg and C"),
+            ((), {"C": 1.0}, TypeError, "costs is given in place of cpos, cneg and C"),
+            ((), {"costs": [10.0, 1.0]}, TypeError, shown + "[10.0, 1.0]"),
+            ((), {"costs": 10.0}, TypeError, shown + "10.0"),
+            ((), {"costs": "cs"}, TypeError, shown + "'cs'"),
+            ((), {"costs": {"cs": 10.0}}, ValueError, needed + "'cs'"),
+            ((), {"costs": {}}, ValueError, needed + "none"),
+            ((), {"costs": {"cs": 10.0, "pl": 1.0}}, ValueError, needed + "'cs', 'pl'"),
+            ((), {"costs": {**both, "pl": 1.0}}, ValueError, needed + "'cs', 'sk', 'pl'"),
+            ((), {"costs": {0: 10.0, 1: 1.0}}, ValueError, needed + "0, 1"),
+            ((), {"costs": {"cs": "10", "sk": 1.0}}, TypeError, "a double is needed, not '10'"),
+            ((), {"costs": {"cs": None, "sk": 1.0}}, TypeError, "a double is needed, not None"),
+        ):
+            for train in (fit_c, partial(trail_c, sample=0)):
+                with self.assertRaises(kind) as caught:
+                    train(LINE, labels, *given, **{"costs": both, **options})
+                self.assertEqual((type(caught.exception), str(caught.exception)), (kind, words))
+        for costs, label in (({"cs": -1, "sk": 1.0}, "cs"), ({"cs": 1.0, "sk": -1}, "sk")):
+            for options in ({}, {"retired": [0]}):
+                with self.assertRaises(Refusal) as caught:
+                    fit_c(LINE, labels, costs=costs, **options)
+                self.assertEqual(caught.exception.sentence, f"costs[{label!r}] is -1: a ceiling is above 0 and at most 2^1000")
+        # Three labels are refused as such, whatever their costs.
+        with self.assertRaises(Refusal) as caught:
+            fit_c(LINE, [0, 1, 7, 7], costs={0: 1.0, 1: 1.0, 7: 2.0})
+        self.assertEqual((caught.exception.number, caught.exception.index), (4, 2))
 
     def test_defaults(self):
         # What isn't given is what it always was.
