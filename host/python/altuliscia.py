@@ -134,20 +134,22 @@ def fit_c(matrix, labels, cpos=_ONE, cneg=_ONE, *, eps=_EPS, shrinking=False, bu
     return _judged(_fit_c(problem, given, options), problem, options)
 
 
-def fit_nu(matrix, labels, nu=0.5, *, eps=_EPS, shrinking=False, budget=_PASSES, floor=USUAL_FLOOR, tol=None, max_iter=None):
+def fit_nu(matrix, labels, nu=0.5, *, eps=_EPS, shrinking=False, budget=_PASSES, floor=USUAL_FLOOR, tol=None, max_iter=None,
+           travelling=False):
     """Trains two classes with nu, above 0 and not above 1. Where the smaller class has fewer than nu*n/2 samples, an InfeasibleNu warns
-    before anything is trained. For the rest see fit_c."""
+    before anything is trained. Every ceiling is 1, so both modes answer alike, and `travelling` must be off. For the rest see fit_c."""
+    _alike(travelling, "1")
     options = _options(eps, tol, shrinking, budget, max_iter, floor)
     problem = _taken.Problem(matrix, labels)
-    told = _infeasible(problem, nu)
-    if told:
-        _warn(InfeasibleNu, told)
+    _feasible(problem, nu)
     return _judged(_fit_nu(problem, nu, options), problem, options)
 
 
-def fit_one_class(matrix, nu=0.5, *, n=None, eps=_EPS, shrinking=False, budget=_PASSES, floor=USUAL_FLOOR, tol=None, max_iter=None):
+def fit_one_class(matrix, nu=0.5, *, n=None, eps=_EPS, shrinking=False, budget=_PASSES, floor=USUAL_FLOOR, tol=None, max_iter=None,
+                  travelling=False):
     """Trains one class with nu, above 0 and not above 1. A matrix that isn't in columns (bytes, array.array, a flat list) needs n
-    beside it. For the rest see fit_c; `n_iter_` is a list here, too."""
+    beside it. As in fit_nu `travelling` must be off. For the rest see fit_c; `n_iter_` is a list here, too."""
+    _alike(travelling, "1")
     options = _options(eps, tol, shrinking, budget, max_iter, floor)
     problem = _taken.Problem(matrix, n=n)
     return _judged(_fit_one_class(problem, nu, options), problem, options)
@@ -168,6 +170,12 @@ _Options = namedtuple("_Options", "eps shrinking budget floor travelling")
 def _options(eps, tol, shrinking, budget, max_iter, floor, travelling=False):
     shrinking, travelling = _taken.flag("shrinking", shrinking), _taken.flag("travelling", travelling)
     return _Options(_taken.either("eps", eps, "tol", tol), shrinking, _taken.passes(budget, max_iter, MOST_PASSES), floor, travelling)
+
+
+def _alike(travelling, ceiling):
+    """Refuses travelling where every sample has this ceiling."""
+    if _taken.flag("travelling", travelling):
+        raise TypeError(f"travelling is on, and here every ceiling is {ceiling}, so both modes answer alike: train with travelling off")
 
 
 def _costs(cpos, cneg, both):
@@ -203,6 +211,13 @@ def _infeasible(problem, nu):
     if 2 in problem.marks or not 0.0 < value <= 1.0 or not value * n / 2 > fewest:
         return None
     return f"nu {value!r} is infeasible: the smaller class has {fewest} of {n} samples, so nu may be {2 * fewest / n:g} at the most"
+
+
+def _feasible(problem, nu):
+    """Warns where it isn't."""
+    told = _infeasible(problem, nu)
+    if told:
+        _warn(InfeasibleNu, told)
 
 
 def _judged(fit, problem, options):

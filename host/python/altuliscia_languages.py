@@ -30,7 +30,7 @@ from altuliscia_answers import doubt, share, warn
 
 
 def fit_languages(matrix, labels, C=None, *, nu=None, languages=None, retired=None, eps=_EPS, shrinking=False, budget=_PASSES,
-                  floor=USUAL_FLOOR, tol=None, max_iter=None):
+                  floor=USUAL_FLOOR, tol=None, max_iter=None, travelling=False):
     """Trains each two of 2 to 12 languages; answers a Sorter.
 
     matrix      the kernel values of all samples with each other. There may be more than 512: a pair has at most that many
@@ -40,7 +40,8 @@ def fit_languages(matrix, labels, C=None, *, nu=None, languages=None, retired=No
     languages   the labels in the order in which of equal votes the first wins; else they are sorted
 
     A pair has its two languages' samples in the matrix's order, the first language positive. What is refused of a pair is refused of all,
-    by the same number. For the rest see altuliscia.fit_c."""
+    by the same number. Every ceiling is the same, so `travelling` must be off. For the rest see altuliscia.fit_c."""
+    altuliscia._alike(travelling, "the same")
     options = altuliscia._options(eps, tol, shrinking, budget, max_iter, floor)
     whole = _Whole(matrix, labels, retired, languages)
     if nu is not None and (C is not None or whole.gone):

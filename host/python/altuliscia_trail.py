@@ -93,11 +93,11 @@ class Differs(RuntimeError):
 
 
 def trail_c(matrix, labels, cpos=_ONE, cneg=_ONE, *, sample, eps=_EPS, shrinking=False, budget=_PASSES, retired=None,
-            floor=USUAL_FLOOR, C=None, tol=None, max_iter=None, costs=None):
-    """The trail of one sample, by its number from 0 on, in what altuliscia.fit_c trains. What is refused there is refused here.
-    Shrinking must be off: with it on, samples move. The floor must be the usual one: the pair finder has no other. A run may be looked at
-    in the middle, so one that isn't to be released doesn't warn."""
-    options = _options(eps, tol, shrinking, budget, max_iter, floor)
+            floor=USUAL_FLOOR, C=None, tol=None, max_iter=None, travelling=False, costs=None):
+    """The trail of one sample, by its number from 0 on, in what altuliscia.fit_c trains. What is refused there is refused here, and what
+    warns there warns here. Shrinking must be off: with it on, samples move. So must travelling: with shrinking off it changes nothing.
+    The floor must be the usual one: the pair finder has no other."""
+    options = _options(eps, tol, shrinking, budget, max_iter, floor, travelling)
     problem = Problem(matrix, labels, retired)
     given = _costs(cpos, cneg, C) if costs is None else _costs_of(costs, problem, cpos, cneg, C)
     kernel, marks, gone, n = problem.kernel, problem.marks, problem.gone, problem.n
@@ -109,13 +109,15 @@ def trail_c(matrix, labels, cpos=_ONE, cneg=_ONE, *, sample, eps=_EPS, shrinking
         ceilings = [float(given[0 if mark else 1][1]) for mark in marks]
         return _Replay(kernel, marks, ceilings, [0.0] * n, [-1.0] * n, options.eps, retired=gone)
 
-    return _trail(fit, replay, sample, options, lambda weights, r: signed(weights, marks, gone))
+    return _trail(fit, replay, sample, problem, options, lambda weights, r: signed(weights, marks, gone))
 
 
-def trail_nu(matrix, labels, nu=0.5, *, sample, eps=_EPS, shrinking=False, budget=_PASSES, floor=USUAL_FLOOR, tol=None, max_iter=None):
+def trail_nu(matrix, labels, nu=0.5, *, sample, eps=_EPS, shrinking=False, budget=_PASSES, floor=USUAL_FLOOR, tol=None, max_iter=None,
+             travelling=False):
     """As trail_c, in what altuliscia.fit_nu trains."""
-    options = _options(eps, tol, shrinking, budget, max_iter, floor)
+    options = _options(eps, tol, shrinking, budget, max_iter, floor, travelling)
     problem = Problem(matrix, labels)
+    altuliscia._feasible(problem, nu)
     kernel, marks, n = problem.kernel, problem.marks, problem.n
 
     def fit(passes):
@@ -131,13 +133,13 @@ def trail_nu(matrix, labels, nu=0.5, *, sample, eps=_EPS, shrinking=False, budge
         general = Problem(kernel, marks, ceilings=[1.0] * n, alphas=_shared(marks, nu), linear=[0.0] * n)
         return altuliscia._fit_general(general, True, options._replace(budget=passes))
 
-    return _trail(fit, replay, sample, options, finished, plain)
+    return _trail(fit, replay, sample, problem, options, finished, plain)
 
 
 def trail_one_class(matrix, nu=0.5, *, sample, n=None, eps=_EPS, shrinking=False, budget=_PASSES, floor=USUAL_FLOOR, tol=None,
-                    max_iter=None):
+                    max_iter=None, travelling=False):
     """As trail_c, in what altuliscia.fit_one_class trains."""
-    options = _options(eps, tol, shrinking, budget, max_iter, floor)
+    options = _options(eps, tol, shrinking, budget, max_iter, floor, travelling)
     problem = Problem(matrix, n=n)
     kernel, n = problem.kernel, problem.n
 
@@ -147,13 +149,13 @@ def trail_one_class(matrix, nu=0.5, *, sample, n=None, eps=_EPS, shrinking=False
     def replay():
         return _Replay(kernel, b"\1" * n, [1.0] * n, _first_ones(n, nu), [0.0] * n, options.eps)
 
-    return _trail(fit, replay, sample, options, lambda weights, r: weights)
+    return _trail(fit, replay, sample, problem, options, lambda weights, r: weights)
 
 
 def trail_general(matrix, labels, ceilings, alphas, linear, *, sample, nu_rule=False, eps=_EPS, shrinking=False, budget=_PASSES,
-                  retired=None, floor=USUAL_FLOOR, tol=None, max_iter=None):
+                  retired=None, floor=USUAL_FLOOR, tol=None, max_iter=None, travelling=False):
     """As trail_c, in what altuliscia.fit_general trains."""
-    options, nu_rule = _options(eps, tol, shrinking, budget, max_iter, floor), flag("nu_rule", nu_rule)
+    options, nu_rule = _options(eps, tol, shrinking, budget, max_iter, floor, travelling), flag("nu_rule", nu_rule)
     problem = Problem(matrix, labels, retired, ceilings=ceilings, alphas=alphas, linear=linear)
 
     def fit(passes):
@@ -163,18 +165,21 @@ def trail_general(matrix, labels, ceilings, alphas, linear, *, sample, nu_rule=F
         lists = (list(array("d", given)) for given in problem.lists.values())
         return _Replay(problem.kernel, problem.marks, *lists, options.eps, nu_rule=nu_rule, retired=problem.gone)
 
-    return _trail(fit, replay, sample, options, lambda weights, r: weights)
+    return _trail(fit, replay, sample, problem, options, lambda weights, r: weights)
 
 
-def _trail(fit, replay, sample, options, finished, plain=None):
+def _trail(fit, replay, sample, problem, options, finished, plain=None):
     """fit trains with as many passes at the most; finished gives weights as it answers them, where its r is that; plain, where it is
     there, answers them undivided."""
     if options.shrinking:
         raise ValueError("a trail is told with shrinking off: with it on, samples move")
+    if options.travelling:
+        raise ValueError("a trail is told with travelling off: with shrinking off, as it is here, both modes answer alike")
     answer = fit(options.budget)
     if options.floor != USUAL_FLOOR:
         raise ValueError("a trail is told with the usual floor, 1e-10: the pair finder has no other")
     number = _number(sample, len(answer.home))
+    altuliscia._judged(answer, problem, options)
     return _Follower(fit, replay(), number, finished, plain).follow(answer, options.budget)
 
 

@@ -10,7 +10,7 @@ from altuliscia import (AboveCeiling, Asymmetric, BelowZero, Doubtful, Fit, Infe
                         fit_general, fit_nu, fit_one_class)
 from altuliscia_languages import fit_languages
 from altuliscia_taken import unlike
-from altuliscia_trail import trail_general
+from altuliscia_trail import trail_c, trail_general, trail_nu, trail_one_class
 from test_altuliscia import IDENTITY, identity
 
 # Four samples on a line, which take some steps.
@@ -212,6 +212,30 @@ class Told(Doubts):
         self.warns([], lambda: fit_c(LINE, SIDES, shrinking=0))
         self.warns([Shrinking, NotReleasable], lambda: fit_c(LINE, SIDES, shrinking=True, budget=1))
 
+    def test_trails(self):
+        """What warns of a fit warns of its trail, once."""
+        lists, spoilt = ([1] * 4, [0] * 4, [-1] * 4), [LINE[0], LINE[1], [4, 8, 10, 16], LINE[3]]
+        blocks = [[2, 1, 0, 0], [1, 3, 0, 0], [0, 0, 2, 1], [0, 0, 1, 1]]
+        for kinds, call in (
+            ([], lambda: trail_c(LINE, SIDES, sample=1)),
+            ([], lambda: trail_nu(LINE, SIDES, 0.3, sample=1)),
+            ([], lambda: trail_one_class(LINE, sample=1)),
+            ([], lambda: trail_general(LINE, SIDES, *lists, sample=1)),
+            ([NotReleasable], lambda: trail_c(LINE, SIDES, sample=1, budget=1)),
+            ([NotReleasable], lambda: trail_nu(IDENTITY, [1, 0], 1.0, sample=1)),
+            ([NotReleasable], lambda: trail_one_class(blocks, 0.6, sample=1, budget=2)),
+            ([NotReleasable], lambda: trail_general(LINE, SIDES, *lists, sample=1, max_iter=1)),
+            ([InfeasibleNu, NotReleasable], lambda: trail_nu(LINE, [1, 0, 0, 0], 0.9, sample=1)),
+            ([Asymmetric], lambda: trail_c(spoilt, SIDES, sample=1)),
+            ([OneCost, NotReleasable], lambda: trail_c(LINE, SIDES, 10.0, sample=1, budget=1)),
+        ):
+            trail, told = self.warns(kinds, call)
+            self.assertEqual(trail.fit.releasable, NotReleasable not in kinds)
+            if not trail.fit.releasable:
+                self.assertEqual(told[-1], f"this fit isn't to be released: {trail.fit.unfit}")
+        matrix, given = [[3, 2, 0, 1], [2, 2, 2, 1], [0, 2, 2, 2], [1, 1, 2, 1]], ([0, 1, 1, 1], [2, 1, 1, 1], [2, 0, 1, 0], [-2, 0, -2, 0])
+        self.warns([AboveCeiling, NotReleasable], lambda: trail_general(matrix, *given, sample=1, eps=0.0, budget=3))
+
     def test_flags(self):
         """A word is never taken for what it doesn't say."""
         lists = [1] * 4, [0] * 4, [-1] * 4
@@ -223,6 +247,10 @@ class Told(Doubts):
                 ("shrinking", lambda: fit_languages(LINE, SIDES, shrinking=flag)),
                 ("travelling", lambda: fit_c(LINE, SIDES, travelling=flag)),
                 ("travelling", lambda: fit_general(LINE, SIDES, *lists, travelling=flag)),
+                ("travelling", lambda: fit_nu(LINE, SIDES, 0.3, travelling=flag)),
+                ("travelling", lambda: fit_one_class(LINE, travelling=flag)),
+                ("travelling", lambda: fit_languages(LINE, SIDES, travelling=flag)),
+                ("travelling", lambda: trail_c(LINE, SIDES, sample=0, travelling=flag)),
                 ("nu_rule", lambda: fit_general(LINE, SIDES, *lists, nu_rule=flag)),
                 ("nu_rule", lambda: trail_general(LINE, SIDES, *lists, sample=0, nu_rule=flag)),
             ):

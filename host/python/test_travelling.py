@@ -6,7 +6,9 @@ from unittest import mock
 
 import altuliscia
 from altuliscia import AboveCeiling, Refusal, Shrinking, fit_c, fit_general, fit_nu, fit_one_class
+from altuliscia_languages import fit_languages
 from altuliscia_taken import Problem
+from altuliscia_trail import trail_c, trail_general, trail_nu, trail_one_class
 from test_altuliscia import IDENTITY, bits, identity, shown, told
 from test_doubts import Doubts, warned
 
@@ -83,9 +85,18 @@ class NotTaken(unittest.TestCase):
         self.assertTrue(fit_c(IDENTITY, [1, 0], retired=[], travelling=True).releasable)
 
     def test_others(self):
-        for call, given in ((fit_nu, (IDENTITY, [1, 0])), (fit_one_class, (IDENTITY,))):
-            with self.assertRaises(TypeError):
+        for call, given, ceiling in ((fit_nu, (KERNEL, LABELS, 0.3), "1"), (fit_one_class, (KERNEL,), "1"), (fit_languages, (KERNEL, LABELS), "the same")):
+            with self.assertRaises(TypeError) as caught:
                 call(*given, travelling=True)
+            words = f"travelling is on, and here every ceiling is {ceiling}, so both modes answer alike: train with travelling off"
+            self.assertEqual(str(caught.exception), words)
+            self.assertEqual(repr(call(*given, travelling=False)), repr(call(*given)))
+        lists = [1, 1, 1, 2], [0] * 4, [-1] * 4
+        for trail, given in ((trail_c, (LABELS, 1.0, 2.0)), (trail_nu, (LABELS, 0.3)), (trail_one_class, ()), (trail_general, (LABELS, *lists))):
+            with self.assertRaises(ValueError) as caught:
+                trail(KERNEL, *given, sample=0, travelling=True)
+            self.assertEqual(str(caught.exception), "a trail is told with travelling off: with shrinking off, as it is here, both modes answer alike")
+            self.assertEqual(trail(KERNEL, *given, sample=0, travelling=False)[:-2], trail(KERNEL, *given, sample=0)[:-2])
         with self.assertRaises(Refusal) as caught:
             fit_c(IDENTITY, [1, 0], floor=0, shrinking=True, travelling=True)
         self.assertEqual(caught.exception.number, 14)
