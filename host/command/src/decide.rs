@@ -113,7 +113,7 @@ fn fields(d: &Decided) -> [Field; 5] {
         serial(&d.caption.serial),
         Field::Whole(d.caption.label.map(i64::from)),
         Field::Whole(Some(i64::from(d.sorted))),
-        Field::Flag(d.caption.wild.is_none()),
+        Field::Flag(d.caption.finite()),
     ]
 }
 

@@ -162,9 +162,10 @@ training sample of serial number j, written out up to the largest number in MODE
 Told are, a line for each caption: its line and its serial in FILE, its label there, the label that
 it is sorted to with its votes, the runner-up with its own, and `tie of ..` with the labels that
 share the most votes, where several do, and `K(j) is nan` (or inf) where a value that has a say
-isn't finite. Of those that FILE has a label for, the part that is sorted so is told on standard
-error, and how many ties there are; and a note where MODEL isn't to be released, where it has no
-record, which svm-train's never has, where a value isn't finite, and where FILE has a label that
+isn't finite, or `the decision of A,B is nan` where only the sum isn't: such a one says nothing. Of
+those that FILE has a label for, the part that is sorted so is told on standard error, and how many
+ties there are; and a note where MODEL isn't to be released, where it has no record, which
+svm-train's never has, where a value or a decision isn't finite, and where FILE has a label that
 MODEL hasn't. Where something in FILE is wrong, nothing but that is told. MODEL or FILE may be -,
 standard input.
 
@@ -192,10 +193,11 @@ class. Each sign is compared with the library's own vote, and nothing is told wh
 Told are, a line for each caption: its line and its serial in FILE, its label there, the label that
 it is sorted to (of one class 1 or -1), and each decision, with every digit, under the two labels of
 its pair, as --pair takes them, or `class`; and `K(j) is nan` (or inf) where a value that has a say
-isn't finite. What is told on standard error is that of `sort`, but for the ties.
+isn't finite, or `the decision of A,B is nan` where only the sum isn't: such a one says nothing.
+What is told on standard error is that of `sort`, but for the ties.
 
   --csv       lines of line,serial,label,sorted,finite and the decisions, under these names: finite
-              is false where a value that has a say isn't
+              is false where a value that has a say isn't, or a decision
   --json      the same, a list of objects; `decisions` has each by its name. What isn't finite is a
               string there
   -q          tells nothing on standard error where all is well

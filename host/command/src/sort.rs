@@ -20,13 +20,23 @@ pub struct Caption {
     pub values: Vec<f64>,
     /// The first serial number of the model with which its value isn't finite.
     pub wild: Option<usize>,
+    /// The first decision on it that isn't finite, in words.
+    pub empty: Option<String>,
 }
 
 impl Caption {
     /// What isn't finite of it, behind a line.
     pub fn mark(&self) -> String {
-        let mark = |k: usize| format!("  K({}) is {}", k, double(self.values[k - 1]));
-        self.wild.map_or(String::new(), mark)
+        match (self.wild, &self.empty) {
+            (Some(k), _) => format!("  K({}) is {}", k, double(self.values[k - 1])),
+            (None, Some(told)) => format!("  {}", told),
+            (None, None) => String::new(),
+        }
+    }
+
+    /// Whether its values are finite, and the decisions on it.
+    pub fn finite(&self) -> bool {
+        self.wild.is_none() && self.empty.is_none()
     }
 }
 
@@ -80,6 +90,16 @@ pub fn notes<'a>(model: &Model, captions: impl Iterator<Item = &'a Caption>) -> 
             first.line
         )
     });
+    let empty = captions
+        .iter()
+        .filter(|c| c.wild.is_none() && c.empty.is_some());
+    let empty = empty.clone().next().map(|first| {
+        format!(
+            "note: a decision isn't finite, though the kernel values are, and so says nothing, of {} of the captions, the first in line {}",
+            empty.count(),
+            first.line
+        )
+    });
     // One class has no labels, and any may stand there.
     let known = |label: &i32| model.labels.is_empty() || model.labels.contains(label);
     let strange = |c: &&&Caption| c.label.map_or(false, |label| !known(&label));
@@ -93,7 +113,10 @@ pub fn notes<'a>(model: &Model, captions: impl Iterator<Item = &'a Caption>) -> 
             first.line
         )
     });
-    [unfit, wild, strange].into_iter().flatten().collect()
+    [unfit, wild, empty, strange]
+        .into_iter()
+        .flatten()
+        .collect()
 }
 
 /// That nothing vouches for a model, where it has no record.
@@ -149,6 +172,7 @@ fn caption(line: usize, text: &str, sorter: &Sorter, largest: usize) -> Result<C
         serial,
         label,
         wild: sorter.wild(&values),
+        empty: sorter.empty(&values),
         values,
     })
 }

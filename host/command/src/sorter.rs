@@ -76,34 +76,59 @@ impl Sorter {
         self.serials.iter().map(|s| values[s - 1]).collect()
     }
 
-    /// What each pair decides, by such values: its sum in the order of the votes, over zeros too, less rho. The library votes on each of
-    /// them, and a decision whose sign isn't its vote is a fault of this program.
+    /// The coefficients of each pair with the kernel values beside them, and its rho.
+    fn trainings<'a>(
+        &'a self,
+        own: &'a [f64],
+    ) -> impl Iterator<Item = (&'a [f64], &'a [f64], f64)> + 'a {
+        let mut start = 0;
+        let each = self.counts.iter().zip(&self.rhos);
+        each.map(move |(count, rho)| {
+            let part = start..start + *count as usize;
+            start = part.end;
+            (&self.coefficients[part.clone()], &own[part], *rho)
+        })
+    }
+
+    /// What each pair decides, by such values. The library votes on each of them, and a decision whose sign isn't its vote is a fault of
+    /// this program.
     pub fn decisions(&self, values: &[f64]) -> Result<Vec<f64>, Trouble> {
         let own = self.own(values);
-        let mut start = 0;
-        let mut decided = Vec::new();
-        for (count, rho) in self.counts.iter().zip(&self.rhos) {
-            let end = start + *count as usize;
-            let (coefficients, values) = (&self.coefficients[start..end], &own[start..end]);
-            let terms = coefficients.iter().zip(values).map(|(c, v)| c * v);
-            let decision = terms.fold(0.0, |sum, term| sum + term) - rho;
-            if (decision >= 0.0) != first_has_it(coefficients, values, *rho)? {
+        let one = |(coefficients, values, rho): (&[f64], &[f64], f64)| {
+            let decision = decision(coefficients, values, rho);
+            if (decision >= 0.0) != first_has_it(coefficients, values, rho)? {
                 let told = format!(
                     "a decision of {} isn't what the library votes",
                     double(decision)
                 );
                 return Err(Trouble::Differs(told));
             }
-            decided.push(decision);
-            start = end;
-        }
-        Ok(decided)
+            Ok(decision)
+        };
+        self.trainings(&own).map(one).collect()
+    }
+
+    /// The first decision that isn't finite, by such values, in words.
+    pub fn empty(&self, values: &[f64]) -> Option<String> {
+        let own = self.own(values);
+        let decided = self.trainings(&own).map(|(c, v, rho)| decision(c, v, rho));
+        let (k, wild) = decided.enumerate().find(|(_, x)| !x.is_finite())?;
+        let pair = pairs(self.labels.len()).nth(k);
+        let of = |(a, b)| format!(" of {},{}", self.label(a), self.label(b));
+        let of = pair.map_or(String::new(), of);
+        Some(format!("the decision{} is {}", of, double(wild)))
     }
 
     /// What a language is called, by its number.
     pub fn label(&self, language: usize) -> i32 {
         self.labels[language - 1]
     }
+}
+
+/// The sum in the order of the votes, over zeros too, less rho.
+fn decision(coefficients: &[f64], values: &[f64], rho: f64) -> f64 {
+    let terms = coefficients.iter().zip(values).map(|(c, v)| c * v);
+    terms.fold(0.0, |sum, term| sum + term) - rho
 }
 
 /// Whether the library votes for the first of two languages.

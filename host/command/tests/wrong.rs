@@ -136,12 +136,20 @@ fn says_so(model: &str, why: &str) {
         assert!(status == 6 && err.ends_with(&isnt), "{}", err);
     }
     let held = format!("{}.held", model);
-    fs::write(&held, "0:1 1:1 2:0 3:0 4:0\n").unwrap();
+    fs::write(&held, "0:1 1:1 2:0 3:0 4:0 5:0 6:0\n").unwrap();
     for command in ["sort", "decide"] {
         let (status, _, err) = whole(&[command, "-q", model, &held]);
-        assert_eq!((status, err), (0, format!("note: {}", isnt)));
+        let rest = err.strip_prefix(&format!("note: {}", isnt));
+        assert!(
+            status == 0 && [Some(""), Some(EMPTY)].contains(&rest),
+            "{}",
+            err
+        );
     }
 }
+
+/// Where what isn't finite is the model's.
+const EMPTY: &str = "note: a decision isn't finite, though the kernel values are, and so says nothing, of 1 of the captions, the first in line 1\n";
 
 /// A model of svm-train has no record, but its rho and its lines tell.
 #[test]
@@ -155,7 +163,7 @@ fn what_a_model_shows_by_itself_is_told_where_it_is_sorted_by() {
         model
     );
     let (_, err) = both("sort -q MODEL FILE", &held, &model).unwrap();
-    assert_eq!(err, note);
+    assert_eq!(err, note + EMPTY);
     let none = head.replace("total_sv 1", "total_sv 0");
     let none = none
         .replace("nr_sv 1", "nr_sv 0")
@@ -285,6 +293,49 @@ fn a_value_that_is_not_finite_is_marked() {
         "     3      3      3       7  inf                       K(2) is -inf",
     ];
     assert_eq!((lines, err.as_str()), (expected.to_vec(), note));
+}
+
+/// Values that are finite, and a sum of them that isn't.
+#[test]
+fn a_decision_that_is_not_finite_is_marked() {
+    let f = folder("wrong-empty");
+    let text = "svm_type c_svc\nkernel_type precomputed\nnr_class 2\ntotal_sv 2\nrho 0\nlabel 7 3\nnr_sv 1 1\nSV\n10 0:1\n-10 0:2\n";
+    let model = file(&f, "model", text.as_bytes());
+    let text = "7 0:1 1:1 2:0\n7 0:2 1:1e308 2:1e308\n3 0:3 1:-1e308 2:0\n7 0:4 1:nan 2:0\n";
+    let path = file(&f, "held", text.as_bytes());
+    let notes = "note: a kernel value that isn't finite has a say in 1 of the captions, the first in line 4
+note: a decision isn't finite, though the kernel values are, and so says nothing, of 2 of the captions, the first in line 2\n";
+    let (out, err) = both("sort -q MODEL FILE", &path, &model).unwrap();
+    let lines: Vec<&str> = out.lines().skip(1).collect();
+    let expected = [
+        "     1      1      7       7      1          3      0",
+        "     2      2      7       3      1          7      0  the decision of 7,3 is nan",
+        "     3      3      3       3      1          7      0  the decision of 7,3 is -inf",
+        "     4      4      7       3      1          7      0  K(1) is nan",
+    ];
+    assert_eq!((lines, err.as_str()), (expected.to_vec(), notes));
+    let (out, err) = both("decide -q --csv MODEL FILE", &path, &model).unwrap();
+    let lines: Vec<&str> = out.lines().skip(1).collect();
+    let expected = [
+        "1,1,7,7,true,10.0",
+        "2,2,7,3,false,nan",
+        "3,3,3,3,false,-inf",
+        "4,4,7,3,false,nan",
+    ];
+    assert_eq!((lines, err.as_str()), (expected.to_vec(), notes));
+    let (out, _) = both("decide -q MODEL FILE", &path, &model).unwrap();
+    assert!(out.contains("3  nan                       the decision of 7,3 is nan\n"));
+    // Of one class there is no pair.
+    let text =
+        "svm_type one_class\nkernel_type precomputed\nnr_class 2\ntotal_sv 1\nrho 0\nSV\n10 0:1\n";
+    let model = file(&f, "model", text.as_bytes());
+    let path = file(&f, "held", b"0:1 1:1e308\n");
+    let (out, err) = both("decide -q MODEL FILE", &path, &model).unwrap();
+    assert!(
+        out.ends_with("  the decision is inf\n") && err == EMPTY,
+        "{}",
+        err
+    );
 }
 
 /// Such a caption is sorted wrongly in any case, and counts so in the accuracy.
