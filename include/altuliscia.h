@@ -14,7 +14,8 @@
  * answer tells: there each term is to be multiplied by 1 where the label is 1 and by -1 where it is 0, which
  * altuliscia_decide_by_label and altuliscia_decide_rows_by_label do; altuliscia_sign makes signed ones of them. With a tuning it is the
  * same. Before an answer is used: the result is 0, the reason is ALTULISCIA_THRESHOLD, rho is finite, and under nu so is r, which isn't
- * 0 (altuliscia_usable). Before it is released it has a support vector, too (altuliscia_releasable).
+ * 0 (altuliscia_usable). Before it is released it has a support vector, too, and under nu r is above 0 and 1/r finite
+ * (altuliscia_releasable).
  *
  * Lists on bytes. A slice is a pointer and its length in bytes. A list of n doubles is 8n bytes: each double stands in eight bytes,
  * lowest first, which is how both processors keep a double in memory. The matrix is 8*n*n bytes: the double of column c, row r stands
@@ -465,15 +466,17 @@ static inline uint64_t altuliscia_vote(uint64_t languages, const double *coeffic
 }
 
 /* Whether an answer can be used: accepted, ended by the threshold, rho finite, and under the nu rule r finite and not 0. Its support
- * isn't asked, since it wasn't from 1.0.0 on: altuliscia_releasable does. */
+ * isn't asked, nor whether r is above 0 and 1/r finite, since they weren't from 1.0.0 on: altuliscia_releasable asks all three. */
 static inline int altuliscia_usable(const altuliscia_result *result) {
     return result->refusal == ALTULISCIA_ACCEPTED && result->reason == ALTULISCIA_THRESHOLD && result->rho - result->rho == 0 &&
            (!result->has_r || (result->r - result->r == 0 && result->r != 0));
 }
 
-/* Whether nothing speaks against the release of an answer: it can be used, and has a support vector. */
+/* Whether nothing speaks against the release of an answer: it can be used, has a support vector, and under the nu rule r is above 0 and
+ * 1/r finite. Divided by an r below 0 each weight has the other class's sign; where 1/r is finite, each of altuliscia_nu is. */
 static inline int altuliscia_releasable(const altuliscia_result *result) {
-    return altuliscia_usable(result) && result->support != 0;
+    return altuliscia_usable(result) && result->support != 0 &&
+           (!result->has_r || (result->r > 0 && 1 / result->r - 1 / result->r == 0));
 }
 
 /* The decision of weights that are signed by label, or of one class: the sum over the samples, in their order, of weight times kernel

@@ -413,6 +413,14 @@ static void released(void) {
     expect("not where r is 0", !altuliscia_releasable(&result));
     result.r = 0.5;
     expect("where it isn't", altuliscia_releasable(&result));
+    result.r = -0.5;
+    expect("not where r is below 0", altuliscia_usable(&result) && !altuliscia_releasable(&result));
+    result.r = 1e-309;
+    expect("not where 1/r isn't finite", altuliscia_usable(&result) && !altuliscia_releasable(&result));
+    result.r = 1e-308;
+    expect("where it is", altuliscia_releasable(&result));
+    result.r = 1 / (result.r - result.r);
+    expect("not where r isn't finite", !altuliscia_releasable(&result));
     altuliscia_train_c(2, m, y, 1, 1, 0.001, 0, 1, NULL, home, &result);
     expect("not where the budget ran out", result.refusal == 0 && !altuliscia_releasable(&result));
     altuliscia_train_c(2, m, ones, 1, 1, 0.001, 0, 10, NULL, home, &result);

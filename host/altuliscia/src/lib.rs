@@ -24,8 +24,8 @@
 //!
 //! The [`decision`] on something new is the sum over the samples of coefficient times kernel value, less rho. From 0 on it is positive
 //! ([`Training::OneClass`]: of the class), else, NaN too, negative. The kernel value of a retired sample has no say. What is
-//! [`unfit`](Trained::unfit) is not to be released: its budget ran out, rho isn't finite, under nu r is 0 or not finite, or it has no
-//! support vector. [`Training::cautions_tuned`] tells beforehand what is accepted and mostly a mistake.
+//! [`unfit`](Trained::unfit) is not to be released: its budget ran out, rho isn't finite, under nu r isn't above 0, or it or its inverse
+//! isn't finite, or it has no support vector. [`Training::cautions_tuned`] tells beforehand what is accepted and mostly a mistake.
 //!
 //! [`fit_c`] and its fellows answer the same as an [`Answer`], without the coefficients: its weights, `home`, are signed by label under
 //! [`fit_c`], [`fit_c_retired`] and [`fit_nu`], but not under [`fit_general`] and [`fit_retired`].

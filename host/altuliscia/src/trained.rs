@@ -104,7 +104,7 @@ impl Answer {
             return Some(Unfit::Budget);
         }
         match self.r {
-            Some(r) if !r.is_finite() || r == 0.0 => Some(Unfit::Scale),
+            Some(r) if !divides(r) => Some(Unfit::Scale),
             _ if !self.rho.is_finite() => Some(Unfit::Rho),
             _ if self.support == 0 => Some(Unfit::NoSupport),
             _ => None,
@@ -117,13 +117,19 @@ impl Answer {
     }
 }
 
+/// Whether weights may be divided by it. None is above 1 before that, so each is finite where the inverse is.
+fn divides(r: f64) -> bool {
+    r > 0.0 && r.is_finite() && r.recip().is_finite()
+}
+
 /// Why an answer is not to be released.
 #[derive(Clone, Copy, Debug, PartialEq, Eq, Hash)]
 #[non_exhaustive]
 pub enum Unfit {
     /// The budget ran out.
     Budget,
-    /// Under nu: r is 0 or not finite, so what was divided by it is no weight.
+    /// Under nu: r isn't above 0, or it or its inverse isn't finite. Where it is below 0, each weight has the other class's sign, so the
+    /// model sorts turned round; else what was divided by it is no weight.
     Scale,
     /// Rho is not finite.
     Rho,
@@ -135,7 +141,9 @@ impl fmt::Display for Unfit {
     fn fmt(&self, f: &mut fmt::Formatter<'_>) -> fmt::Result {
         f.write_str(match self {
             Unfit::Budget => "the budget ran out before the threshold was reached",
-            Unfit::Scale => "r, by which nu's weights are divided, is 0 or not finite",
+            Unfit::Scale => {
+                "r, by which nu's weights are divided, isn't above 0, or it or its inverse isn't finite"
+            }
             Unfit::Rho => "rho is not finite",
             Unfit::NoSupport => "there is no support vector",
         })

@@ -108,6 +108,68 @@ fn what_is_not_to_be_released_is_told() {
     assert_eq!(trained.unfit(), Some(Unfit::Scale));
 }
 
+/// An r below 0 gives each weight the other class's sign; one that has no finite inverse makes weights infinite.
+#[test]
+fn an_r_that_turns_the_weights_or_makes_them_infinite_is_told() {
+    let points: [[f64; 2]; 6] = [
+        [0.1, 0.0],
+        [-0.3, 0.1],
+        [-0.2, 0.1],
+        [0.2, -0.3],
+        [0.0, 0.1],
+        [0.3, 0.1],
+    ];
+    let products = points.map(|p| points.map(|q| p[0] * q[0] + p[1] * q[1]));
+    let turned = (products.concat(), [0, 1, 0, 1, 0, 1].map(|y| y == 1));
+    let small = [
+        3., 1., 0., 0., 1., 2., 0., 0., 0., 0., 2., 1., 0., 0., 1., 3.,
+    ];
+    let trained = |matrix: &[f64], labels: &[bool], nu| {
+        let problem = Problem { matrix, labels };
+        Training::Nu { problem, nu }.train(&tuned()).unwrap()
+    };
+    let (matrix, labels) = turned;
+    let below = trained(&matrix, &labels, 0.2);
+    assert!(below.answer.r.unwrap() < 0.0);
+    let signs = below.coefficients().iter().zip(labels);
+    assert!(signs
+        .filter(|(c, _)| **c != 0.0)
+        .all(|(c, l)| (*c < 0.0) == l));
+    assert_eq!(below.unfit(), Some(Unfit::Scale));
+
+    let labels = [true, true, false, false];
+    let tiny = trained(&small.map(|x| x * 1e-309), &labels, 0.3);
+    assert!(tiny.answer.r.unwrap() > 0.0 && tiny.coefficients()[0].is_infinite());
+    assert_eq!(tiny.unfit(), Some(Unfit::Scale));
+    assert_eq!(trained(&small, &labels, 0.3).unfit(), None);
+}
+
+/// By its sign and its inverse.
+#[test]
+fn each_r_is_looked_at() {
+    let good = c(&[true, false], 1.0, 300).answer;
+    let least = f64::from_bits(0x0004_0000_0000_0001);
+    let before = f64::from_bits(0x0004_0000_0000_0000);
+    assert!(least.recip().is_finite() && before.recip().is_infinite());
+    for r in [0.5, 1.0, 1e-308, f64::MAX, least] {
+        let answer = Answer {
+            r: Some(r),
+            ..good.clone()
+        };
+        assert_eq!(answer.unfit(), None, "{}", r);
+    }
+    for r in [-0.5, -1e-300, 0.0, -0.0, before, f64::INFINITY, f64::NAN] {
+        let answer = Answer {
+            r: Some(r),
+            ..good.clone()
+        };
+        assert_eq!(answer.unfit(), Some(Unfit::Scale), "{}", r);
+    }
+    let told =
+        "r, by which nu's weights are divided, isn't above 0, or it or its inverse isn't finite";
+    assert_eq!(Unfit::Scale.to_string(), told);
+}
+
 /// The first that applies, and every number that isn't finite.
 #[test]
 fn each_number_of_an_answer_is_looked_at() {
@@ -118,7 +180,6 @@ fn each_number_of_an_answer_is_looked_at() {
         answer.unfit()
     };
     assert_eq!(with(|_| {}), None);
-    assert_eq!(with(|a| a.r = Some(-1e-300)), None);
     for rho in [f64::NAN, f64::INFINITY, -f64::INFINITY] {
         let answer = Answer {
             rho,

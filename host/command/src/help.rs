@@ -13,8 +13,8 @@ doesn't say that it was trained on FILE, 10 + N the library's refusal N (11 to 2
 is told on standard error.
 
 Not to be released is what ended since its budget ran out, what has a rho that isn't finite or with
--s 1 an r that is 0 or not finite, and what has no weight above 100*2^-52 in magnitude
-(docs/PROMISES.md).
+-s 1 an r that isn't above 0, isn't finite or has an inverse that isn't, and what has no weight
+above 100*2^-52 in magnitude (docs/PROMISES.md); and a model with a weight that isn't finite.
 "
     };
 }

@@ -174,10 +174,7 @@ fn ended(settings: &Settings, a: &Answer) -> String {
 pub fn unfit(settings: &Settings, a: &Answer) -> Option<String> {
     Some(match a.unfit()? {
         Unfit::Budget => format!("the budget ran out, all {} of it", settings.budget),
-        Unfit::Scale => format!(
-            "r, by which the weights are divided, is {}",
-            double(a.r.unwrap_or_default())
-        ),
+        Unfit::Scale => scale(a.r.unwrap_or_default()),
         Unfit::Rho => format!(
             "rho is {}, so everything is sorted into one and the same class{}",
             double(a.rho),
@@ -189,6 +186,17 @@ pub fn unfit(settings: &Settings, a: &Answer) -> Option<String> {
         ),
         other => other.to_string(),
     })
+}
+
+/// What an r is by which weights can't be divided.
+fn scale(r: f64) -> String {
+    let why = match r {
+        r if r.is_finite() && r < 0.0 => ": each weight has the other class's sign",
+        r if r > 0.0 && r.is_finite() => ", so small that 1/r isn't finite",
+        _ => "",
+    };
+    let told = "r, by which the weights are divided, is";
+    format!("{} {}{}", told, double(r), why)
 }
 
 /// What the list that linfa-svm answers has otherwise.

@@ -93,7 +93,8 @@ impl Model {
         names.into_iter().zip(self.rhos.iter().copied()).collect()
     }
 
-    /// Why it isn't to be released, where it says so itself: by its record, by a rho, since it lists nobody, or somebody twice.
+    /// Why it isn't to be released, where it says so itself: by its record, by a rho or a weight that isn't finite, since it lists nobody,
+    /// or somebody twice.
     pub fn unfit(&self) -> Option<String> {
         let recorded = self.record.as_ref().and_then(|record| record.unfit.clone());
         let rho = || {
@@ -106,6 +107,14 @@ impl Model {
                 false => format!("the rho of the pair {} is {}", name, double(rho)),
             })
         };
+        let weight = || {
+            let words = |line: &Support| {
+                let wild = line.coefficients.iter().find(|x| !x.is_finite())?;
+                let (serial, wild) = (line.serial, double(*wild));
+                Some(format!("a weight of serial {} is {}", serial, wild))
+            };
+            self.support.iter().find_map(words)
+        };
         let nobody = || {
             self.support
                 .is_empty()
@@ -116,7 +125,8 @@ impl Model {
             let again = self.support.iter().find(|line| !seen.insert(line.serial));
             again.map(|line| format!("it has the serial number {} twice", line.serial))
         };
-        recorded.or_else(rho).or_else(nobody).or_else(twice)
+        let numbers = recorded.or_else(rho).or_else(weight);
+        numbers.or_else(nobody).or_else(twice)
     }
 }
 

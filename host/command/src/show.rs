@@ -73,7 +73,7 @@ fn recorded(model: &Model) -> Vec<String> {
             false => format!("retired: {}", retired.join(",")),
         },
         format!("exit reason: {}", exit(model, record)),
-        match &record.unfit {
+        match model.unfit() {
             None if record.cautions.is_empty() => {
                 "to be released: nothing speaks against it".to_string()
             }
@@ -182,5 +182,33 @@ pub fn weights(
     match model.unfit() {
         Some(why) => Err(not_to_be_released(&model, &why)),
         None => Ok(()),
+    }
+}
+
+#[cfg(test)]
+mod tests {
+    use super::*;
+
+    /// What its numbers say counts, whatever its record does.
+    #[test]
+    fn a_record_does_not_speak_for_a_weight_that_is_not_finite() {
+        let record = Record {
+            version: "1.6.0".to_string(),
+            options: "-s 1 -n 0.3".to_string(),
+            retired: Vec::new(),
+            exits: vec!["threshold".to_string()],
+            unfit: None,
+            samples: 2,
+            hash: "0".to_string(),
+            cautions: Vec::new(),
+        };
+        for (weight, told) in [
+            ("2", "to be released: nothing speaks against it"),
+            ("inf", "to be released: no: a weight of serial 1 is inf"),
+        ] {
+            let text = format!("svm_type nu_svc\nkernel_type precomputed\nnr_class 2\ntotal_sv 2\nrho 0\nlabel 7 3\nnr_sv 1 1\nSV\n{} 0:1\n-2 0:2\n", weight);
+            let model = Model::of("a", record.behind(&text).as_bytes()).unwrap();
+            assert!(about(&model).contains(&told.to_string()), "{}", told);
+        }
     }
 }

@@ -47,7 +47,7 @@ fn a_model_is_written_and_told() {
 fn a_ceiling_divided_by_r_has_no_sign() {
     let f = folder("negative-r");
     let negative = file(&f, "k.txt", b"1 0:1 1:-1 2:0\n2 0:2 1:0 2:-1\n");
-    let text = told("train -s 1 -n 0.5 FILE MODEL", &negative, "/dev/null").unwrap();
+    let (_, text, _) = whole(&["train", "-s1", "-n.5", &negative, "/dev/null"]);
     assert!(
         text.contains("C = -2.000000\n") && text.contains("nSV = 2, nBSV = 0\n"),
         "{}",

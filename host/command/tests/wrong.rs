@@ -67,16 +67,28 @@ fn a_serial_number_without_a_line_is_a_fault() {
     }
 }
 
-/// Of each reason: what is told, and that no model is written unless that is asked for.
-#[test]
-fn what_is_not_to_be_released_has_status_6() {
-    let f = folder("wrong-unfit");
+/// The products of six points in the plane, on which r comes out below 0 with nu 0.2.
+const TURNED: &str = "\
+-1 0:1 1:0.010000000000000002 2:-0.03 3:-0.020000000000000004 4:0.020000000000000004 5:0.0 6:0.03
++1 0:2 1:-0.03 2:0.1 3:0.07 4:-0.09 5:0.010000000000000002 6:-0.07999999999999999
+-1 0:3 1:-0.020000000000000004 2:0.07 3:0.05000000000000001 4:-0.07 5:0.010000000000000002 6:-0.049999999999999996
++1 0:4 1:0.020000000000000004 2:-0.09 3:-0.07 4:0.13 5:-0.03 6:0.03
+-1 0:5 1:0.0 2:0.010000000000000002 3:0.010000000000000002 4:-0.03 5:0.010000000000000002 6:0.010000000000000002
++1 0:6 1:0.03 2:-0.07999999999999999 3:-0.049999999999999996 4:0.03 5:0.010000000000000002 6:0.1
+";
+
+/// A problem and options, and why what is trained of them isn't to be released.
+fn reasons() -> Vec<(Vec<u8>, &'static str, &'static str)> {
     let zeros = own(4, &[0.0; 16], &[1, 1, 0, 0]);
     let four = [
         4., -4., 3., -3., -4., 3., 2., -2., 3., 2., 4., 0., -3., -2., 0., 5.,
     ];
+    let tiny = [
+        3., 1., 0., 0., 1., 2., 0., 0., 0., 0., 2., 1., 0., 0., 1., 3.,
+    ];
+    let tiny = tiny.map(|x| x * 1e-309);
     let small = SMALL.as_bytes().to_vec();
-    for (data, options, why) in [
+    vec![
         (
             small.clone(),
             "--budget 1",
@@ -97,8 +109,25 @@ fn what_is_not_to_be_released_has_status_6() {
             "-e 0 -h 1 --budget 100",
             "rho is nan, so everything is sorted into one and the same class; train with -h 0",
         ),
+        (
+            TURNED.as_bytes().to_vec(),
+            "-s 1 -n 0.2",
+            "r, by which the weights are divided, is -1.734723475976807e-18: each weight has the other class's sign",
+        ),
+        (
+            own(4, &tiny, &[1, 1, 0, 0]),
+            "-s 1 -n 0.3",
+            "r, by which the weights are divided, is 1.5e-309, so small that 1/r isn't finite",
+        ),
         (small, "-c 1e-14", "there is no support vector"),
-    ] {
+    ]
+}
+
+/// Of each reason: what is told, and that no model is written unless that is asked for.
+#[test]
+fn what_is_not_to_be_released_has_status_6() {
+    let f = folder("wrong-unfit");
+    for (data, options, why) in reasons() {
         let (path, model) = (file(&f, "file", &data), f.join("model"));
         let model = model.to_str().unwrap();
         let _ = fs::remove_file(model);
@@ -185,6 +214,30 @@ fn what_a_model_shows_by_itself_is_told_where_it_is_sorted_by() {
     );
     assert_eq!(err, note);
     assert_eq!(whole(&["show", &model]).0, 6);
+}
+
+#[test]
+fn a_model_with_a_weight_that_is_not_finite_is_not_to_be_released() {
+    let f = folder("wrong-weight");
+    let text = "svm_type nu_svc\nkernel_type precomputed\nnr_class 3\ntotal_sv 2\nrho 0 0 0\nlabel 7 3 9\nnr_sv 1 1 0\nSV\n1 1 0:1\n-1 inf 0:2\n";
+    let held = file(&f, "held", b"7 0:1 1:1 2:1\n");
+    for word in ["inf", "-inf", "nan"] {
+        let model = file(&f, "model", text.replace("inf", word).as_bytes());
+        let isnt = format!(
+            "{} isn't to be released: a weight of serial 2 is {}\n",
+            model, word
+        );
+        for command in ["show", "weights"] {
+            let (status, _, err) = whole(&[command, &model]);
+            assert!(status == 6 && err.ends_with(&isnt), "{}", err);
+        }
+        for command in ["sort", "decide"] {
+            let (status, _, err) = whole(&[command, "-q", &model, &held]);
+            assert_eq!((status, err), (0, format!("note: {}{}", isnt, EMPTY)));
+        }
+    }
+    let model = file(&f, "model", text.replace("inf", "1").as_bytes());
+    assert_eq!(whole(&["show", &model]).0, 0);
 }
 
 #[test]
