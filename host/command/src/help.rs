@@ -110,9 +110,9 @@ svm-train ends with, the options, and the exit reason. (threshold: no pair is le
 who is retired, with --floor a floor that isn't the usual one, and --travelling where it is on. nSV
 counts the weights above 100*2^-52 in magnitude, and nBSV those of them that are at their ceiling or
 above it. Notes are told on standard error. Cautions, which the model keeps: a kernel that isn't
-symmetric, costs that differ, that shrinking is on, weights above their ceilings. Others: an option
-that has no say, weights that the Rust crate linfa-svm gives to others. With -q nothing else is
-told.
+symmetric, costs that differ, that shrinking is on, weights above their ceilings or below 0 (before
+they are signed by their class). Others: an option that has no say, weights that the Rust crate
+linfa-svm gives to others. With -q nothing else is told.
 
 MODEL is what LIBSVM's svm-predict reads for a precomputed kernel. Where it isn't named it is
 FILE's name with .model, in this folder. Its weights are each sample's own (the home reading), all
@@ -233,9 +233,9 @@ altuliscia weights [OPTIONS] MODEL
 
 Trains the problem of FILE and lists every sample: its number from 0 on, its serial number in
 FILE, its label, its own weight (signed by its class), `at` where the weight is at its ceiling,
-`above` where it is above it, `retired` where the sample is retired (then its weight is 0), and
-what the Rust crate linfa-svm says, or would say with another floor or with --travelling, where
-that is another weight.
+`above` where it is above it, `below 0` where it has the sign of the other class,
+`retired` where the sample is retired (then its weight is 0), and what the Rust crate linfa-svm
+says, or would say with another floor or with --travelling, where that is another weight.
 The exit reason, rho and the options are told on standard error, who is retired, a floor that isn't
 the usual one, --travelling where it is on, and the notes of `train`; with -q only the notes. Where
 what was trained isn't to be released, it is listed all the same, and the exit status is 6. Where
@@ -251,8 +251,8 @@ What `show` tells of it is told on standard error. It takes only --pair, --sampl
               a text file with a caption for each sample of FILE, a line each in their order, which
               must be that of their serial numbers: then the caption stands beside each
   --csv       lines of sample,serial,label,against,weight,ceiling,mark,linfa_svm,caption,eps:
-              against is the other label, ceiling a number, mark at, above or retired. What isn't
-              known is empty
+              against is the other label, ceiling a number, mark at, above, below 0 or retired. What
+              isn't known is empty
   --json      an object with file, model (true or false), version, options, eps, retired, release
               (true or false), unfit (why not), cautions (a list), trainings (pair, rho and exit of
               each) and weights, a list with the fields of --csv but eps. What isn't known is null,

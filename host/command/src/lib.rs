@@ -122,8 +122,8 @@ fn of_one_training(
             progress::shown(err, terminal, "training", trained)?
         }
     };
-    let above = report::of_ceilings(samples, settings, ceilings, &answer);
-    judged.cautions.extend(above);
+    let outside = report::of_ceilings(samples, settings, ceilings, &answer);
+    judged.cautions.extend(outside);
     let parted = report::of_answer(samples, settings, &answer);
     judged.notes.extend(parted);
     let told = Told {

@@ -16,7 +16,7 @@ pub struct Row {
     pub against: Option<i32>,
     pub weight: f64,
     pub ceiling: Option<f64>,
-    /// `at`, `above`, `retired`.
+    /// `at`, `above`, `below 0`, `retired`.
     pub mark: Option<&'static str>,
     /// What linfa-svm says.
     pub other: Option<f64>,
@@ -292,6 +292,8 @@ fn column(
         .lines(class)
         .iter()
         .filter(|line| line.coefficients[column] != 0.0);
+    // The columns before its own are those of pairs in which it is the second, whose weights are negative.
+    let sign = if column < class - 1 { -1.0 } else { 1.0 };
     let row = |line: &crate::saved::Support| Row {
         sample: None,
         serial: line.serial as u64,
@@ -299,7 +301,7 @@ fn column(
         against,
         weight: line.coefficients[column],
         ceiling,
-        mark: ceiling.and_then(|c| report::beside_ceiling(line.coefficients[column], c)),
+        mark: ceiling.and_then(|c| report::beside_ceiling(sign * line.coefficients[column], c)),
         other: None,
         caption: None,
     };

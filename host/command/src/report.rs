@@ -23,19 +23,30 @@ pub fn ceiling(s: &Samples, fit: Fit, ceilings: (f64, f64), answer: &Answer, k: 
     }
 }
 
-/// Whether a weight is `at` its ceiling or `above` it. Where r makes the ceiling 0 or infinite, nothing is.
+/// A weight without the sign of its class, and of an r that is below 0. Of one class no label has a say.
+fn unsigned(s: &Samples, fit: Fit, answer: &Answer, k: usize) -> f64 {
+    let second = fit != Fit::OneClass && s.labels.get(k) == Some(&0);
+    let turned = answer.r.map_or(false, |r| r < 0.0);
+    match second != turned {
+        true => -answer.home[k],
+        false => answer.home[k],
+    }
+}
+
+/// Whether a weight, without a sign, is `below 0`, `at` its ceiling or `above` it. Where r makes the ceiling 0 or infinite, nothing is.
 pub fn beside_ceiling(weight: f64, ceiling: f64) -> Option<&'static str> {
     if ceiling == 0.0 || ceiling.is_infinite() {
         return None;
     }
-    match weight.abs().partial_cmp(&ceiling) {
+    match weight.partial_cmp(&ceiling) {
+        _ if weight < 0.0 => Some("below 0"),
         Some(Ordering::Equal) => Some("at"),
         Some(Ordering::Greater) => Some("above"),
         _ => None,
     }
 }
 
-/// What is said beside a sample's weight: `retired`, `at`, `above`.
+/// What is said beside a sample's weight: `retired`, `at`, `above`, `below 0`.
 pub fn mark(
     s: &Samples,
     fit: Fit,
@@ -45,7 +56,10 @@ pub fn mark(
 ) -> Option<&'static str> {
     match s.retired[k] {
         true => Some("retired"),
-        false => beside_ceiling(answer.home[k], ceiling(s, fit, ceilings, answer, k)),
+        false => beside_ceiling(
+            unsigned(s, fit, answer, k),
+            ceiling(s, fit, ceilings, answer, k),
+        ),
     }
 }
 
@@ -85,7 +99,8 @@ fn finished(s: &Samples, settings: &Settings, ceilings: (f64, f64), a: &Answer) 
     // Of the weights that nSV counts.
     let bounded = (0..s.n)
         .filter(|k| a.home[*k].abs() > SUPPORT_LIMIT)
-        .filter(|k| mark(s, settings.fit, ceilings, a, *k).is_some())
+        .filter_map(|k| mark(s, settings.fit, ceilings, a, k))
+        .filter(|mark| ["at", "above"].contains(mark))
         .count();
     lines.push(format!("nSV = {}, nBSV = {}", a.support, bounded));
     lines
@@ -235,20 +250,20 @@ pub fn of_shrinking(settings: &Settings) -> Option<String> {
     on.then(|| told.to_string())
 }
 
-/// The caution of weights above their ceilings, where there are some.
+/// The cautions of weights above their ceilings and below 0, where there are some.
 pub fn of_ceilings(
     s: &Samples,
     settings: &Settings,
     ceilings: (f64, f64),
     a: &Answer,
-) -> Option<String> {
-    let above = (0..s.n).filter(|k| mark(s, settings.fit, ceilings, a, *k) == Some("above"));
-    let serials: Vec<String> = above.map(|k| s.serials[k].to_string()).collect();
-    let told = || {
-        format!(
-            "a weight is above its ceiling: that of serial {}",
-            serials.join(",")
-        )
+) -> Vec<String> {
+    let told = |wanted: &str, words: &str| {
+        let those = (0..s.n).filter(|k| mark(s, settings.fit, ceilings, a, *k) == Some(wanted));
+        let serials: Vec<String> = those.map(|k| s.serials[k].to_string()).collect();
+        let serials = Some(serials.join(",")).filter(|all| !all.is_empty());
+        serials.map(|all| format!("a weight is {}: that of serial {}", words, all))
     };
-    (!serials.is_empty()).then(told)
+    let above = told("above", "above its ceiling");
+    let below = told("below 0", "below 0");
+    above.into_iter().chain(below).collect()
 }

@@ -23,8 +23,8 @@ pub struct Trained {
     spent: Vec<String>,
     /// The pairs that aren't to be released, each with its reason.
     unfit: Vec<String>,
-    /// The weights above their ceilings, with their pairs.
-    above: Vec<String>,
+    /// The weights above their ceilings and below 0, with their pairs.
+    outside: Vec<String>,
 }
 
 impl Trained {
@@ -58,9 +58,10 @@ impl Trained {
         let unfit = report::unfit(settings, answer);
         let unfit = unfit.map(|why| format!("pair {}: {}", labels, why));
         self.unfit.extend(unfit);
-        let above = report::of_ceilings(pair, settings, ceilings, answer);
-        let above = above.map(|told| format!("{}, in the pair {}", told, labels));
-        self.above.extend(above);
+        let outside = report::of_ceilings(pair, settings, ceilings, answer);
+        let outside = outside.into_iter();
+        self.outside
+            .extend(outside.map(|told| format!("{}, in the pair {}", told, labels)));
         if answer.reason == ExitReason::Iterations {
             self.spent.push(labels.to_string());
         }
@@ -103,7 +104,7 @@ pub fn carried_out(
         return Ok(());
     }
     let trained = progress::in_parts(err, terminal, |now| trained(s, settings, costs, now))?;
-    judged.cautions.extend(trained.above.iter().cloned());
+    judged.cautions.extend(trained.outside.iter().cloned());
     judged.notes.extend(trained.notes());
     let unfit = Some(trained.unfit.join("; ")).filter(|why| !why.is_empty());
     let written = unfit.is_none() || settings.anyway;
@@ -148,7 +149,7 @@ fn trained(
         ends: Vec::new(),
         spent: Vec::new(),
         unfit: Vec::new(),
-        above: Vec::new(),
+        outside: Vec::new(),
     };
     for (k, (first, second)) in places(classes).enumerate() {
         let labels = format!("{} {}", s.classes[first], s.classes[second]);

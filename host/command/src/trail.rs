@@ -231,7 +231,7 @@ fn ended(t: &Trail) -> String {
             "above its ceiling, which is kept only where both classes have the same cost"
         }
         x if x > 0.0 => "inside, above 0 and below its ceiling",
-        x if x < 0.0 => "below 0",
+        x if x < 0.0 => "below 0, which is ruled out only where both classes have the same cost",
         _ => "not a number",
     };
     let end = double(t.end);
@@ -279,7 +279,35 @@ fn checked(s: &Samples, t: &Trail) -> String {
 #[cfg(test)]
 mod tests {
     use super::*;
-    use altuliscia::Refusal;
+    use altuliscia::{Options, Problem, Refusal, Training};
+
+    #[test]
+    fn where_a_weight_ends_is_told() {
+        let (matrix, labels) = (&[1.0, 0.0, 0.0, 1.0][..], &[true, false][..]);
+        let training = Training::C {
+            problem: Problem { matrix, labels },
+            cpos: 1.5,
+            cneg: 1.5,
+        };
+        let mut t = trail(&training, 0, &Options::default()).unwrap();
+        for (end, place) in [
+            (0.0, "0.0: the least that it may be."),
+            (1.0, "1.0: inside, above 0 and below its ceiling."),
+            (1.5, "1.5: at its ceiling."),
+            (
+                2.0,
+                "2.0: above its ceiling, which is kept only where both classes have the same cost.",
+            ),
+            (
+                -0.25,
+                "-0.25: below 0, which is ruled out only where both classes have the same cost.",
+            ),
+            (f64::NAN, "nan: not a number."),
+        ] {
+            t.end = end;
+            assert_eq!(ended(&t), format!("In the end it is {}", place));
+        }
+    }
 
     #[test]
     fn a_trail_that_is_not_the_librarys_has_a_status_of_its_own() {

@@ -172,6 +172,59 @@ fn a_weight_above_its_ceiling_is_told() {
     assert!(help.contains(kept));
 }
 
+/// Costs that differ, and shrinking on: serial 2 has the sign of the other class.
+const BELOW: &str = "\
+-1 0:1 1:10 2:-6 3:-4 4:7
+-1 0:2 1:-6 2:10 3:-4 4:-5
+-1 0:3 1:-4 2:-4 3:8 4:-2
++1 0:4 1:7 2:-5 3:-2 4:5
+";
+
+#[test]
+fn a_weight_below_0_is_told() {
+    let f = folder("below");
+    let (path, model) = (
+        file(&f, "below.txt", BELOW.as_bytes()),
+        file(&f, "model", b""),
+    );
+    let note = "note: a weight is below 0: that of serial 2\n";
+    let (text, err) = both("weights -w1 10 -h 1 FILE", &path, "").unwrap();
+    let found: Vec<&str> = text.lines().skip(1).collect();
+    assert_eq!(
+        found[1],
+        "     1      2     -1  0.3135480436518501        below 0"
+    );
+    assert!(found[0].ends_with("  at") && err.ends_with(note), "{}", err);
+    let (text, err) = both("train -q -w1 10 -h 1 FILE MODEL", &path, &model).unwrap();
+    assert!(text.is_empty() && err.ends_with(note), "{}", err);
+    let text = told("train -w1 10 -h 1 FILE MODEL", &path, &model).unwrap();
+    assert!(text.contains("nSV = 4, nBSV = 1\n"), "{}", text);
+    // In the model, too: as a caution and beside the weight.
+    let shown = told("show MODEL", "", &model).unwrap();
+    assert!(shown.ends_with("\ncaution: a weight is below 0: that of serial 2\n"));
+    let csv = told("weights --csv FILE", &model, "").unwrap();
+    assert!(csv.contains("\n,2,-1,1,0.3135480436518501,1.0,below 0,,,"));
+    assert_eq!(csv.matches("below 0").count(), 1);
+    let json = told("weights --json -w1 10 -h 1 FILE", &path, "").unwrap();
+    assert_eq!(json.matches("\"mark\": \"below 0\"").count(), 1);
+}
+
+/// With other costs none is, and of one class labels have no say. Where r is below 0, each weight has the other sign, and is told by r.
+#[test]
+fn a_sign_alone_is_no_weight_below_0() {
+    let f = folder("signs");
+    let path = file(&f, "below.txt", BELOW.as_bytes());
+    for options in ["-c 1 -h 1", "-w1 10", "-s 2"] {
+        let words = format!("weights {} FILE", options);
+        let (text, err) = both(&words, &path, "").unwrap();
+        assert!(!(text + &err).contains("below 0"), "{}", options);
+    }
+    let negative = file(&f, "k.txt", b"1 0:1 1:-1 2:0\n2 0:2 1:0 2:-1\n");
+    let (status, text, err) = whole(&["weights", "-s1", "-n.5", &negative]);
+    assert!(status == 6 && text.contains("  -1.0\n"), "{}", text);
+    assert!(!(text + &err).contains("below 0"));
+}
+
 const ON: &str = "note: shrinking is on: with -h 1 'threshold' speaks only of the samples still active, and obj and rho needn't be those of these weights; train with -h 0\n";
 
 #[test]

@@ -549,6 +549,24 @@ fn what_is_not_well_is_told_with_its_pair() {
     assert_eq!(summary.matches("\nfloor = 1e-12\noptions: ").count(), 1);
 }
 
+#[test]
+fn a_weight_below_0_is_told_with_its_pair() {
+    let f = folder("several-below");
+    let text = "-1 0:1 1:10 2:-6 3:-4 4:7 5:0\n-1 0:2 1:-6 2:10 3:-4 4:-5 5:0\n-1 0:3 1:-4 2:-4 3:8 4:-2 5:0\n1 0:4 1:7 2:-5 3:-2 4:5 5:0\n5 0:5 1:0 2:0 3:0 4:0 5:1\n";
+    let (path, model) = (file(&f, "a", text.as_bytes()), file(&f, "model", b"old"));
+    let line = "train -q -h 1 -w1 10 FILE MODEL";
+    let (_, err) = both(line, &path, &model).unwrap();
+    let note = "note: a weight is below 0: that of serial 2, in the pair -1 1\n";
+    assert!(err.ends_with(note), "{}", err);
+    let csv = told("weights --csv FILE", &model, "").unwrap();
+    let marked: Vec<&str> = csv.lines().filter(|l| l.contains("below 0")).collect();
+    assert!(
+        marked.len() == 1 && marked[0].starts_with(",2,-1,1,-0.27"),
+        "{}",
+        csv
+    );
+}
+
 /// A weight that is listed and not counted, in one pair and in all.
 #[test]
 fn what_is_listed_and_not_counted_is_told() {
