@@ -147,9 +147,16 @@ impl fmt::Display for Refusal {
                 self.sentence()
             ),
             _ => write!(f, "refusal {}: {}", number, self.sentence()),
+        }?;
+        // Nobody lends a tuning by its bytes here, and so it is said in other words, too.
+        match self {
+            Refusal::Length => f.write_str(RETIRED_TRAVELLING),
+            _ => Ok(()),
         }
     }
 }
+
+const RETIRED_TRAVELLING: &str = " Travelling takes a tuning of 16 bytes, and isn't for samples that may be retired: fit these without it.";
 
 impl std::error::Error for Refusal {}
 

@@ -164,6 +164,8 @@ fn where_samples_may_be_retired_it_is_refused() {
         let tuned = told(Options::default(), true);
         assert_eq!(costs(-1.0).fit_tuned(&tuned), Err(Refusal::Length));
     }
+    let told_so = "isn't for samples that may be retired: fit these without it.";
+    assert!(Refusal::Length.to_string().ends_with(told_so));
     let nobody = lists(3, 0);
     let none = Training::Retired {
         general: nobody.general(false),
