@@ -3,7 +3,7 @@
 use Prim.Native.Nat.{ℕ, suc, _<_}
 use mathlib.Core.Bool.{Bool, true, false, Bool·beq, cond}
 use mathlib.Core.List.{List}
-use mathlib.Core.Path.{_≡_, refl, sym, ap, _∙_}
+use mathlib.Core.Path.{_≡_, refl, sym, ap, ap₂, _∙_}
 use native.Mathlib.Omega.{arith}
 use lib.Ieee.{Float, nan}
 use lib.ListN.{length, getD}
@@ -14,7 +14,6 @@ use Rattle.answer.specs.declared.Answer.{Answer}
 use Rattle.answer.specs.declared.Outcome.the-variants.{Accepted}
 use Rattle.boxrun.proofs.Owned.{Owned, owned-reconstructed, owned-moved, runs-owned}
 use Rattle.classification.specs.Entries.{generalTuned, fitCTuned}
-use Rattle.finder.specs.Found.{foundPair}
 use Rattle.modes.specs.Modes.{travels, repaired}
 use Rattle.modes.specs.declared.Mode.the-variants.{Travelling}
 use Rattle.solver.specs.Pass.{countedDown, passed, next, runs}
@@ -31,7 +30,7 @@ use Rattle.update.specs.Update.{ceilingIn, ceiling, countedUpper}
 use Rattle.update.specs.declared.Pair as Update
 use Rattle.update.proofs.Left.{turnOf, alpha-i, alpha-j}
 use Rattle.promises.specs.Fit.{Fit, generalFit, cFit, startFrom, after, stepsTaken}
-use Rattle.promises.specs.Trail.{foundAt, noStep}
+use Rattle.promises.specs.Trail.{foundUnder, foundAt, noStep}
 use Rattle.promises.specs.Travelling.{foundOwn, OwnStep}
 use Rattle.promises.proofs.Entries.{general-served, c-served}
 use Rattle.promises.proofs.Iterations.{served-iterations}
@@ -77,7 +76,6 @@ module _ {k : Fit} {m : List ℕ} {budget : ℕ} {d : Lent} {o : Whole} (v : Ser
         ∙ ap (λ (z : ℕ). getD (k .ceilings) z nan) (sym stood)
 
     own-pair : foundAt p (g .mode) (k .ceilings) (u .state) (e .i) (e .j) ≡ foundOwn k m d e (u .state)
-    unfolding foundPair
     own-pair =
         let x = each-step g m (k .ceilings) _ budget q noStep h in
         let l = step-left g m (k .ceilings) (after k m d q) (e .i) (e .j) (kept .active) (kept .kept .ready .floats) (x .pair) in
@@ -92,10 +90,9 @@ module _ {k : Fit} {m : List ℕ} {budget : ℕ} {d : Lent} {o : Whole} (v : Ser
         ∙ ap (λ (w : Alpha). w .upper) (alpha-i p (k .ceilings) (g .mode) (g .floor) (u .state) (e .i) (e .j) (u .run .active) i-in j-in few room (l .apart)) in
         let left-j = ap (λ (z : State). alpha p z (e .j) .upper) steps
         ∙ ap (λ (w : Alpha). w .upper) (alpha-j p (k .ceilings) (g .mode) (g .floor) (u .state) (e .i) (e .j) (u .run .active) i-in j-in few room) in
-        rw (
-          own-at (e .i) (e .sampleI) i-in left-i (ap (λ (y : Step). y .sampleI) (x .is)) (x .going),
-          own-at (e .j) (e .sampleJ) j-in left-j (ap (λ (y : Step). y .sampleJ) (x .is)) (x .going),
-        )
+        ap₂ (λ (v w : Float). foundUnder p (u .state) (e .i) (e .j) v w)
+        (own-at (e .i) (e .sampleI) i-in left-i (ap (λ (y : Step). y .sampleI) (x .is)) (x .going))
+        (own-at (e .j) (e .sampleJ) j-in left-j (ap (λ (y : Step). y .sampleJ) (x .is)) (x .going))
 
     pub served-own : g .floor ≡ floor → OwnStep k m d budget q
     served-own plain =

@@ -22,11 +22,15 @@ use Rattle.update.specs.Update.{ceiling}
 use Rattle.update.specs.declared.Pair.{Pair}
 use Rattle.promises.specs.Fit.{Fit, after, weightAfter, pairAfter, stepsTaken, rOf}
 
--- what the pair finder says of positions i and j in a state, under their ceilings there; b are those of the places
-abbrev pub foundAt : Problem → Mode → List Float → State → ℕ → ℕ → Pair
-foundAt p mode b s i j =
-    foundPair (weight (alpha p s i .value) (ceiling p mode b s i)) (weight (alpha p s j .value) (ceiling p mode b s j)) (gradient p s i) (gradient p s j)
+-- what the pair finder says of positions i and j in a state, under the ceilings u and v
+abbrev pub foundUnder : Problem → State → ℕ → ℕ → Float → Float → Pair
+foundUnder p s i j u v =
+    foundPair (weight (alpha p s i .value) u) (weight (alpha p s j .value) v) (gradient p s i) (gradient p s j)
     (diagonal p s i) (diagonal p s j) (row p s i j) (eqb (getD (s .labels) i 0) (getD (s .labels) j 0))
+
+-- under their ceilings there; b are those of the places
+abbrev pub foundAt : Problem → Mode → List Float → State → ℕ → ℕ → Pair
+foundAt p mode b s i j = foundUnder p s i j (ceiling p mode b s i) (ceiling p mode b s j)
 
 -- what is read behind the last step
 abbrev pub noStep : Step

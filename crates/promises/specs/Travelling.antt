@@ -2,28 +2,21 @@
 use Prim.Native.Nat.{ℕ}
 use mathlib.Core.List.{List}
 use mathlib.Core.Path.{_≡_}
-use lib.Dec.{eqb}
 use lib.Ieee.{nan}
 use lib.ListN.{getD}
-use Rattle.alpha.specs.Weight.{weight}
 use Rattle.answer.specs.Lent.{Lent}
-use Rattle.finder.specs.Found.{foundPair}
 use Rattle.solver.specs.Pass.{countedDown}
 use Rattle.solver.specs.Run.{problemOf}
-use Rattle.state.specs.Fields.{gradient, alpha, diagonal, row}
 use Rattle.state.specs.Lists.{State}
 use Rattle.trace.specs.Trace.{Step, lookAt}
 use Rattle.update.specs.declared.Pair.{Pair}
 use Rattle.promises.specs.Fit.{Fit, after, stepsTaken}
-use Rattle.promises.specs.Trail.{noStep}
+use Rattle.promises.specs.Trail.{foundUnder, noStep}
 
 module _ (k : Fit) (m : List ℕ) (d : Lent) where
   -- what the pair finder says of the two of step e in a state
   abbrev pub foundOwn : Step → State → Pair
-  foundOwn e s =
-      let p = problemOf (k .given) m in
-      foundPair (weight (alpha p s (e .i) .value) (getD (k .ceilings) (e .sampleI) nan)) (weight (alpha p s (e .j) .value) (getD (k .ceilings) (e .sampleJ) nan))
-      (gradient p s (e .i)) (gradient p s (e .j)) (diagonal p s (e .i)) (diagonal p s (e .j)) (row p s (e .i) (e .j)) (eqb (getD (s .labels) (e .i) 0) (getD (s .labels) (e .j) 0))
+  foundOwn e s = foundUnder (problemOf (k .given) m) s (e .i) (e .j) (getD (k .ceilings) (e .sampleI) nan) (getD (k .ceilings) (e .sampleJ) nan)
 
   -- what step q left is that, in the state in which its pair was chosen
   abbrev pub OwnStep : ℕ → ℕ → Type 0

@@ -1,9 +1,6 @@
 //! The problems of docs/DIFFERENCES.md, as they are written there.
 use altuliscia::*;
 
-#[path = "../src/functions.rs"]
-mod functions;
-
 /// eps 0, a budget of 100.
 fn options(shrinking: bool) -> Options {
     Options {
@@ -29,6 +26,15 @@ struct Ceilings<'a> {
 impl Ceilings<'_> {
     /// Iterations and weights in the crate's mode.
     fn crates(&self, shrinking: bool) -> (u64, Vec<f64>) {
+        self.trained(shrinking, false)
+    }
+
+    /// The same in the travelling mode.
+    fn travelling(&self, shrinking: bool) -> (u64, Vec<f64>) {
+        self.trained(shrinking, true)
+    }
+
+    fn trained(&self, shrinking: bool, travelling: bool) -> (u64, Vec<f64>) {
         let general = General {
             problem: Problem {
                 matrix: self.matrix,
@@ -39,41 +45,11 @@ impl Ceilings<'_> {
             linear: self.linear,
             nu_rule: false,
         };
-        let answer = fit_general(&general, &options(shrinking)).unwrap();
+        let mut tuned = Tuned::from(options(shrinking));
+        tuned.travelling = travelling;
+        let answer = Training::General(general).fit_tuned(&tuned).unwrap();
         (answer.iterations, answer.home)
     }
-
-    /// The same in the travelling mode, by the C function itself.
-    fn travelling(&self, shrinking: bool) -> (u64, Vec<f64>) {
-        let n = self.labels.len();
-        let lists = [self.matrix, self.ceilings, self.alphas, self.linear].map(bytes);
-        let [m, c, a, l] = &lists;
-        let tuning = [1e-10_f64.to_bits(), 1].map(u64::to_le_bytes).concat();
-        let mut written = [vec![0; 8 * n], vec![0; 8 * n], vec![0; 128]];
-        let [crate_reading, home, answer] = &mut written;
-        // each pointer has its length beside it
-        #[rustfmt::skip]
-        let refused = unsafe {
-            functions::altuliscia_general_tuned(n, m.as_ptr(), m.len(), self.labels.as_ptr(), n, c.as_ptr(), c.len(),
-                a.as_ptr(), a.len(), l.as_ptr(), l.len(), 0, 0, u8::from(shrinking), 100, tuning.as_ptr(), tuning.len(),
-                crate_reading.as_mut_ptr(), 8 * n, home.as_mut_ptr(), 8 * n, answer.as_mut_ptr(), 128)
-        };
-        assert_eq!(refused, 0);
-        (
-            word(answer, 6),
-            (0..n).map(|k| f64::from_bits(word(home, k))).collect(),
-        )
-    }
-}
-
-fn bytes(list: &[f64]) -> Vec<u8> {
-    list.iter()
-        .flat_map(|x| x.to_bits().to_le_bytes())
-        .collect()
-}
-
-fn word(bytes: &[u8], k: usize) -> u64 {
-    u64::from_le_bytes(bytes[8 * k..8 * k + 8].try_into().unwrap())
 }
 
 #[test]

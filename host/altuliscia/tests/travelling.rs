@@ -6,8 +6,6 @@ use drawn::lists;
 
 /// The problem of docs/DIFFERENCES.md on which samples are moved.
 const MOVED: [i8; 16] = [4, 0, 0, -1, 0, 2, 2, 1, 0, 2, 4, 0, -1, 1, 0, 3];
-/// The one on which none is, and a weight ends above its ceiling all the same.
-const STILL: [i8; 16] = [3, 2, 0, 1, 2, 2, 2, 1, 0, 2, 2, 2, 1, 1, 2, 1];
 /// The products of the points (-3 1), (1 3), (1 0) and (1 2), and 1 more for a point with itself.
 const POINTS: [i8; 16] = [11, 0, -3, -1, 0, 11, 1, 7, -3, 1, 2, 1, -1, 7, 1, 6];
 
@@ -65,27 +63,6 @@ fn a_ceiling_goes_with_its_sample() {
     assert_eq!(fit(costs, false), (places, 5));
     let own = vec![-0.0, -0.6400367309458219, third, 1.0];
     assert_eq!(fit(costs, true), (own, 5));
-}
-
-/// No sample is moved here, so travelling makes no box, either.
-#[test]
-fn a_weight_may_end_above_its_own_ceiling() {
-    let general = Training::General(General {
-        problem: Problem {
-            matrix: &STILL.map(f64::from),
-            labels: &[false, true, true, true],
-        },
-        ceilings: &[2.0, 1.0, 1.0, 1.0],
-        alphas: &[2.0, 0.0, 1.0, 0.0],
-        linear: &[-2.0, 0.0, -2.0, 0.0],
-        nu_rule: false,
-    });
-    let options = Options {
-        eps: 0.0,
-        ..shrinking()
-    };
-    let answer = general.fit_tuned(&told(options, true)).unwrap();
-    assert_eq!((answer.iterations, answer.home[1]), (3, 1.0000000000000002));
 }
 
 #[test]

@@ -110,17 +110,11 @@ fn of_one_training(
     }
     let captions = trail::captions(samples, settings, &whole)?;
     let finger = trail::finger(samples, settings, &whole, captions.clone())?;
-    let answer = match &finger {
-        Some(finger) if call.command == Command::Trail => {
-            let followed = || trail::followed(samples, settings, ceilings, finger.sample);
-            let trail = progress::shown(err, terminal, "following", followed)?;
-            tell(out, &trail::text(samples, settings, finger, &trail))?;
-            trail.answer
-        }
-        _ => {
-            let trained = || trained(samples, settings, ceilings);
-            progress::shown(err, terminal, "training", trained)?
-        }
+    let pointed = finger.as_ref().filter(|_| call.command == Command::Trail);
+    let work = || trained(samples, settings, ceilings);
+    let answer = match pointed {
+        Some(finger) => told_trail(settings, samples, ceilings, finger, out, err, terminal)?,
+        None => progress::shown(err, terminal, "training", work)?,
     };
     let outside = report::of_ceilings(samples, settings, ceilings, &answer);
     judged.cautions.extend(outside);
@@ -137,6 +131,22 @@ fn of_one_training(
     told.out(finger, captions, out)?;
     told.err(err);
     told.ended()
+}
+
+/// Follows a sample, tells its steps, and hands back the answer of the whole run.
+fn told_trail(
+    settings: &Settings,
+    samples: &Samples,
+    ceilings: (f64, f64),
+    finger: &trail::Finger,
+    out: &mut dyn Write,
+    err: &mut (dyn Write + Send),
+    terminal: bool,
+) -> Result<Answer, Trouble> {
+    let work = || trail::followed(samples, settings, ceilings, finger.sample);
+    let trail = progress::shown(err, terminal, "following", work)?;
+    tell(out, &trail::text(samples, settings, finger, &trail))?;
+    Ok(trail.answer)
 }
 
 /// What is known of a whole file, where a pair of it is trained.

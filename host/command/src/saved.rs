@@ -344,10 +344,11 @@ fn supporting(line: &str, count: usize) -> Result<Support, String> {
 }
 
 #[cfg(test)]
-mod tests {
+pub mod tests {
     use super::*;
 
-    const MODEL: &str = "svm_type c_svc
+    /// Three languages, four captions.
+    pub const MODEL: &str = "svm_type c_svc
 kernel_type precomputed
 nr_class 3
 total_sv 4

@@ -149,20 +149,7 @@ fn first_has_it(coefficients: &[f64], values: &[f64], rho: f64) -> Result<bool, 
 #[cfg(test)]
 mod tests {
     use super::*;
-
-    const MODEL: &str = "svm_type c_svc
-kernel_type precomputed
-nr_class 3
-total_sv 4
-rho 0.5 -1 nan
-label 7 -1 9
-nr_sv 2 1 1
-SV
-1 2 0:4
-3 0 0:1
--4 5 0:2
--2 -5 0:3
-";
+    use crate::saved::tests::MODEL;
 
     fn parsed(text: &str) -> Sorter {
         Sorter::of(&Model::of("a", text.as_bytes()).unwrap())

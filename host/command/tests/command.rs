@@ -2,6 +2,7 @@
 mod bare;
 mod common;
 mod over;
+mod program;
 mod whole;
 
 use bare::bare;
@@ -9,8 +10,8 @@ use captions::Figures;
 use command::run;
 use common::{both, file, folder, own, told, SMALL};
 use over::OVER;
+use program::program;
 use std::fs;
-use std::process::Command;
 use whole::whole;
 
 #[test]
@@ -676,17 +677,6 @@ fn help_is_there_for_all() {
         );
         assert!(text.lines().all(|l| l.chars().count() <= 100), "{}", line);
     }
-}
-
-/// The program, by the emulator where one runs these tests.
-fn program() -> Command {
-    let path = env!("CARGO_BIN_EXE_altuliscia");
-    let emulator =
-        std::env::var("CARGO_TARGET_X86_64_UNKNOWN_LINUX_GNU_RUNNER").unwrap_or_default();
-    let mut words = emulator.split_whitespace().chain([path]);
-    let mut command = Command::new(words.next().unwrap());
-    command.args(words);
-    command
 }
 
 #[test]

@@ -1,10 +1,12 @@
 //! Weights in other forms, of one sample, with captions, and those of a model; decisions; and what is read from standard input.
 mod bare;
 mod common;
+mod program;
 mod whole;
 
 use bare::bare;
 use common::{both, file, folder, own, told, SMALL};
+use program::program;
 use std::fs;
 use std::io::Write;
 use std::process::{Command, Stdio};
@@ -383,17 +385,6 @@ fn decisions_are_told_with_every_digit() {
     assert!(trouble
         .to_string()
         .ends_with("few:1: 1 kernel values, but the model has the serial number 2"));
-}
-
-/// The program, by the emulator where one runs these tests.
-fn program() -> Command {
-    let path = env!("CARGO_BIN_EXE_altuliscia");
-    let emulator =
-        std::env::var("CARGO_TARGET_X86_64_UNKNOWN_LINUX_GNU_RUNNER").unwrap_or_default();
-    let mut words = emulator.split_whitespace().chain([path]);
-    let mut command = Command::new(words.next().unwrap());
-    command.args(words);
-    command
 }
 
 #[test]
