@@ -1,8 +1,10 @@
 // One weight and its ceiling.
+#![tactic(auto)]
+
 ghost use Rattle.std.specs.Prelude.{◌≡◌};
 ghost use Rattle.alpha.specs.Weight.{floor, limit, weight, at_upper, at_lower, is_free, clip};
 
-#[derive(Drop)]
+#[derive(Clone, Copy)]
 pub struct Alpha {
     pub value: f64,
     pub upper: f64,

@@ -4,7 +4,7 @@ use Rattle.alpha.specs.Weight.{weight}
 use Rattle.classification.specs.Entries.{general_tuned_sized, fit_cTuned_sized, fit_nu_tuned_sized, fit_one_class_tuned_sized}
 use Rattle.finder.specs.Found.{found_pair, with_pair}
 use Rattle.retired.specs.Entry.{retired_tuned_sized}
-use Rattle.hosted.specs.Hosted.{is_on, as_float, tuning_known, tuning_of, floats_of, byte_sizes, general_inputs, room, Handed, delivered, hosted_by}
+use Rattle.hosted.specs.Hosted.{is_on, as_float, floor_known, tuning_of, floats_of, byte_sizes, general_inputs, room, Handed, delivered, hosted_by}
 use Rattle.votes.specs.Votes.{Panel}
 use Rattle.votes.specs.Entry.{languages_good, Voted, voted_on, election_told}
 use Rattle.tuning.specs.Tuning.{plain_tuning}
@@ -27,7 +27,7 @@ general_host = general_host_by plain_tuning
 unfoldable pub retired_host : ℕ → List ℕ → List ℕ → List ℕ → List ℕ → List ℕ → List ℕ → ℕ → ℕ → ℕ → ℕ → List ℕ → List ℕ → List ℕ → List ℕ → Handed
 retired_host n m l c a p r nurule eps shrinking budget t cr h an =
     hosted_by
-    (byte_sizes n (general_inputs n l c a p && eqb (length r) n && tuning_known t) m cr h an)
+    (byte_sizes n (general_inputs n l c a p && eqb (length r) n && floor_known t) m cr h an)
     (delivered n (retired_tuned_sized (tuning_of t) n m l (floats_of c n) (floats_of a n) (floats_of p n) r (is_on nurule) (as_float eps) (is_on shrinking) budget room) cr h an)
     cr
     h

@@ -1,4 +1,5 @@
 // The C functions: each entry over the host's bytes, with its own working room.
+#![tactic(auto)]
 ghost use Rattle.std.specs.Prelude.{◌≡◌, ℕ};
 ghost use Rattle.hosted.specs.Hosted.{Handed, handed};
 ghost use Rattle.votes.specs.Votes.{panel};
@@ -81,7 +82,7 @@ pub extern "C" fn altuliscia_retired(
         & hosted::are_floats(n, a.len())
         & hosted::are_floats(n, p.len())
         & (r.len() == n)
-        & hosted::is_tuning(t);
+        & hosted::is_floor(t);
     let s = hosted::sized(n, lists, m.len(), cr.len(), h.len(), answer.len());
     if s == 0 {
         let tune = hosted::tuning_of(t);

@@ -1,4 +1,5 @@
 // The answer of a run and both readings, and the scratch cleared.
+#![tactic(auto)]
 ghost use Rattle.std.specs.Prelude.{◌≡◌, Bool, true, false, ℕ, ◌+◌, ◌*◌, ◌≤◌, ◌<◌, length};
 ghost use Rattle.readings.specs.Order.{NamesSamples, crate_reading, home_reading, weight_in};
 ghost use Rattle.solver.specs.Run.{Full, full};
@@ -13,19 +14,19 @@ use rho::Level;
 use solver::{Given, Run, Status};
 
 // r, with the nu rule.
-#[derive(Drop)]
+#[derive(Clone, Copy)]
 pub enum Ratio {
     Absent,
     Present(f64),
 }
 
-#[derive(Drop)]
+#[derive(Clone, Copy)]
 pub enum ExitReason {
     ReachedThreshold,
     ReachedIterations,
 }
 
-#[derive(Drop)]
+#[derive(Clone, Copy)]
 pub struct Answer {
     pub rho: f64,
     pub r: Ratio,
@@ -36,14 +37,14 @@ pub struct Answer {
 }
 
 // A refusal has its number and the first offending index.
-#[derive(Drop)]
+#[derive(Clone, Copy)]
 pub enum Outcome {
     Accepted(Answer),
     Refused(u64, usize),
 }
 
 // How a fit gives its coefficients: as they are, signed by label, or signed and divided by r.
-#[derive(Drop)]
+#[derive(Clone, Copy)]
 pub enum Finish {
     Plain,
     Signed,

@@ -1,5 +1,6 @@
 // The pair choice of the C rule.
 // The parameters f, u, y are the lent lists, and n, side, kind, m what a run is given: state/specs/Lists.antt.
+#![tactic(auto)]
 ghost use Rattle.std.specs.Prelude.{◌≡◌, ◌≤◌};
 ghost use Rattle.state.specs.Lists.{problem, state, Ready};
 ghost use Rattle.choose_c.specs.Choice.{extremes_c, weighed_c, choice_c};
@@ -9,7 +10,7 @@ use alpha::Alpha;
 use extreme::{Choice, Extreme, Found};
 use kernel::Kind;
 
-#[derive(Drop)]
+#[derive(Clone, Copy)]
 pub struct Extremes {
     pub gmax1: Extreme,
     pub gmax2: Extreme,

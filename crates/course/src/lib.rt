@@ -1,5 +1,6 @@
 // A training without an order table: start, passes until there is no pair or the budget is spent, and what it answers.
 // The parameters f and y are the lent floats and labels, cpos and cneg the ceilings by label, p the linear term: orderless/specs/Sheet.antt.
+#![tactic(auto)]
 ghost use Rattle.std.specs.Prelude.{true, cond, ◌≡◌, ◌+◌, ◌*◌, ◌≤◌, ◌<◌, T, eqb, length, get_or};
 ghost use Rattle.std.specs.Float.{binary64, nan};
 ghost use Rattle.std.specs.Float.Ieee.{fits, mul, eq};
@@ -19,7 +20,7 @@ use rho::{Level, Share};
 use solver::Given;
 
 // How many steps a run has taken, and whether there may be more.
-#[derive(Drop)]
+#[derive(Clone, Copy)]
 pub struct Went {
     pub steps: usize,
     pub going: bool,

@@ -1,1 +1,2 @@
 // The worked examples, as one table: definitions and one theorem.
+#![tactic(auto)]

@@ -1,29 +1,30 @@
 // A running extreme: the best value so far, and who holds it. Each function weighs one more candidate.
+#![tactic(auto)]
 ghost use Rattle.std.specs.Prelude.{cond, ◌≡◌};
 ghost use Rattle.extreme.specs.Best.{weighed, at_least, above, at_most};
 ghost use Rattle.extreme.specs.Racing.{below, racing, raced};
 
-#[derive(Drop)]
+#[derive(Clone, Copy)]
 pub enum Found {
     At(usize),
     Nobody,
 }
 
-#[derive(Drop)]
+#[derive(Clone, Copy)]
 pub struct Extreme {
     pub value: f64,
     pub holder: Found,
 }
 
 // The same without the holder's word for it: which place stands for nobody, its owner says.
-#[derive(Drop)]
+#[derive(Clone, Copy)]
 pub struct Race {
     pub value: f64,
     pub at: usize,
 }
 
 // What a rule for the pair answers.
-#[derive(Drop)]
+#[derive(Clone, Copy)]
 pub enum Choice {
     Pair(usize, usize),
     Optimal,

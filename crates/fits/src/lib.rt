@@ -1,4 +1,5 @@
 // What each fit starts from, and the lent scratch loaded with it.
+#![tactic(auto)]
 ghost use Rattle.std.specs.Prelude.{◌≡◌, Bool, ℕ, ◌+◌, ◌*◌, ◌≤◌, ◌<◌, eqb, length};
 ghost use Rattle.floats.specs.Helpers.{whole_product};
 ghost use Rattle.state.specs.Lists.{State, state};
@@ -6,7 +7,7 @@ ghost use Rattle.fits.specs.Load.{loaded_floats, loaded_numbers, loaded_labels, 
 ghost use Rattle.fits.specs.Starts.{cost_of, costs_to, given_from, rest_after, half, rest_to, shared_to, one_class_at, one_class_to};
 
 // What is left to give to each label.
-#[derive(Drop)]
+#[derive(Clone, Copy)]
 pub struct Rest {
     pub pos: f64,
     pub neg: f64,

@@ -1,4 +1,6 @@
 // The helpers that the Rust takes from its float type.
+#![tactic(auto)]
+
 ghost use Rattle.std.specs.Prelude.{◌≡◌, ◌≤◌};
 ghost use Rattle.floats.specs.Helpers.{max_of, min_of, abs_of, whole_as_float, whole_part, whole_product};
 

@@ -167,7 +167,7 @@ module _ (tune : Tuning) (n : ℕ) (m l c a p : List ℕ) (nurule eps shrinking 
       ran general_k m cr h an budget (byte_sizes n (general_inputs n l c a p) m cr h an) (floor_judged tune.floor (general_judged n m l (floats_of c n) (floats_of a n) (floats_of p n) (as_float eps) budget)) refl
       (serves n (general_inputs n l c a p) (length m) (length cr) (length h) (length an))
       (λ most long f. usable_general n m budget most long l (floats_of c n) (floats_of a n) (floats_of p n) (as_float eps) (floor_fine tune.floor _ f).0)
-      (λ q i e. some_number tune (is_on shrinking) q (general_sized_number tune n m l (floats_of c n) (floats_of a n) (floats_of p n) (is_on nurule) (as_float eps) (is_on shrinking) budget room q i e))
+      (λ q i e. some_number tune.floor (is_on shrinking) q (general_sized_number tune n m l (floats_of c n) (floats_of a n) (floats_of p n) (is_on nurule) (as_float eps) (is_on shrinking) budget room q i e))
       z
 
   pub general_gives : Gives (general_trains tune n l c a p nurule eps shrinking) m budget (general_host_by tune n m l c a p nurule eps shrinking budget cr h an)
@@ -218,7 +218,7 @@ module _ (tune : Tuning) (n : ℕ) (m l : List ℕ) (cpos cneg eps shrinking bud
       ran c_k m cr h an budget (byte_sizes n (eqb (length l) n) m cr h an) (floor_judged tune.floor (c_judged n m l (as_float cpos) (as_float cneg) (as_float eps) budget)) refl
       (serves n (eqb (length l) n) (length m) (length cr) (length h) (length an))
       (λ most long f. usable_c n m budget most long l (as_float cpos) (as_float cneg) (as_float eps) (floor_fine tune.floor _ f).0)
-      (λ q i e. some_number tune (is_on shrinking) q (c_sized_number tune n m l (as_float cpos) (as_float cneg) (as_float eps) (is_on shrinking) budget room q i e))
+      (λ q i e. some_number tune.floor (is_on shrinking) q (c_sized_number tune n m l (as_float cpos) (as_float cneg) (as_float eps) (is_on shrinking) budget room q i e))
       z
 
   pub c_gives : Gives (c_trains tune n l cpos cneg eps shrinking) m budget (c_host_by tune n m l cpos cneg eps shrinking budget cr h an)
@@ -252,7 +252,7 @@ module _ (tune : Tuning) (n : ℕ) (m l : List ℕ) (nu eps shrinking budget : �
       ran nu_k m cr h an budget (byte_sizes n (eqb (length l) n) m cr h an) (floor_judged tune.floor (nu_judged n m l (as_float nu) (as_float eps) budget)) refl
       (serves n (eqb (length l) n) (length m) (length cr) (length h) (length an))
       (λ most long f. usable_nu n m budget most long l (as_float nu) (as_float eps) (floor_fine tune.floor _ f).0)
-      (λ q i e. some_number tune (is_on shrinking) q (nu_sized_number tune n m l (as_float nu) (as_float eps) (is_on shrinking) budget room q i e))
+      (λ q i e. some_number tune.floor (is_on shrinking) q (nu_sized_number tune n m l (as_float nu) (as_float eps) (is_on shrinking) budget room q i e))
       z
 
   -- the entry accepts, so all that is promised of it holds; and its answer is what is written
@@ -282,7 +282,7 @@ module _ (tune : Tuning) (n : ℕ) (m : List ℕ) (nu eps shrinking budget : ℕ
       ran one_class_k m cr h an budget (byte_sizes n true m cr h an) (floor_judged tune.floor (one_class_judged n m (as_float nu) (as_float eps) budget)) refl
       (serves n true (length m) (length cr) (length h) (length an))
       (λ most long f. usable_one_class n m budget most long (as_float nu) (as_float eps) (floor_fine tune.floor _ f).0)
-      (λ q i e. some_number tune (is_on shrinking) q (one_class_sized_number tune n m (as_float nu) (as_float eps) (is_on shrinking) budget room q i e))
+      (λ q i e. some_number tune.floor (is_on shrinking) q (one_class_sized_number tune n m (as_float nu) (as_float eps) (is_on shrinking) budget room q i e))
       z
 
   -- the entry accepts, so all that is promised of it holds; and its answer is what is written

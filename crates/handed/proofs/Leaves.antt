@@ -15,9 +15,8 @@ use Rattle.answer.specs.Answer.{words_of}
 use Rattle.answer.specs.Lent.{Whole}
 use Rattle.answer.specs.declared.Outcome.{Outcome}
 use Rattle.answer.specs.declared.Outcome.TheVariants.{Accepted, Refused}
-use Rattle.hosted.specs.Hosted.{is_on, byte_sizes, general_inputs, tuning_known, tuning_of, handed, answered_by, delivered_by, delivered, turned_away, hosted_by}
+use Rattle.hosted.specs.Hosted.{is_on, byte_sizes, general_inputs, floor_known, tuning_of, handed, answered_by, delivered_by, delivered, turned_away, hosted_by}
 use Rattle.hosted.proofs.Serves.{serves}
-use Rattle.promises.specs.Numbers.{may_lose}
 use Rattle.promises.proofs.Beyond.{beyond_refl}
 use Rattle.wire.specs.Wire.{digits}
 use Rattle.tuning.specs.declared.Tuning.{Tuning}
@@ -88,13 +87,13 @@ module _ (n : ℕ) (cr h an : List ℕ) where
 
 -- ---- the five functions
 
-few : (t : Tuning) (shrinking : ℕ) {q : ℕ} → MayAnswer t shrinking q → q ≤ 14
-few t shrinking {q} (inl l) = go (may_lose t.mode (is_on shrinking)) refl
+few : (x : Float) (shrinking : ℕ) {q : ℕ} → MayAnswer x shrinking q → q ≤ 14
+few x shrinking {q} (inl l) = go (is_on shrinking) refl
   where
-    go : (b : Bool) → may_lose t.mode (is_on shrinking) ≡ b → q ≤ 14
+    go : (b : Bool) → is_on shrinking ≡ b → q ≤ 14
     go true e = let h : q ≤ 11 = rw e at l in omega arith
     go false e = let h : q ≤ 10 = rw e at l in omega arith
-few t shrinking (inr h) = let e = h.0 in omega arith
+few x shrinking (inr h) = let e = h.0 in omega arith
 
 few_retired : (x : Float) {q : ℕ} → RetiredMayAnswer x q → q ≤ 14
 few_retired x (inl h) = omega (arith, h.0)
@@ -108,26 +107,26 @@ pub general_called_leaves : (tune : Tuning) (n : ℕ) (m l c a p : List ℕ) (nu
     → HandsBack n 72 cr h an (general_host_by tune n m l c a p nurule eps shrinking budget cr h an)
 unfolding general_host_by
 general_called_leaves tune n m l c a p nurule eps shrinking budget cr h an =
-    hosted_leaves n cr h an _ _ (answer_long n (general_inputs n l c a p) m cr h an) (few tune shrinking (general_called_number tune n m l c a p nurule eps shrinking budget cr h an))
+    hosted_leaves n cr h an _ _ (answer_long n (general_inputs n l c a p) m cr h an) (few tune.floor shrinking (general_called_number tune n m l c a p nurule eps shrinking budget cr h an))
 
 pub c_called_leaves : (tune : Tuning) (n : ℕ) (m l : List ℕ) (cpos cneg eps shrinking budget : ℕ) (cr h an : List ℕ) → HandsBack n 72 cr h an (c_host_by tune n m l cpos cneg eps shrinking budget cr h an)
 unfolding c_host_by
 c_called_leaves tune n m l cpos cneg eps shrinking budget cr h an =
-    hosted_leaves n cr h an _ _ (answer_long n (eqb (length l) n) m cr h an) (few tune shrinking (c_called_number tune n m l cpos cneg eps shrinking budget cr h an))
+    hosted_leaves n cr h an _ _ (answer_long n (eqb (length l) n) m cr h an) (few tune.floor shrinking (c_called_number tune n m l cpos cneg eps shrinking budget cr h an))
 
 pub nu_called_leaves : (tune : Tuning) (n : ℕ) (m l : List ℕ) (nu eps shrinking budget : ℕ) (cr h an : List ℕ) → HandsBack n 72 cr h an (nu_host_by tune n m l nu eps shrinking budget cr h an)
 unfolding nu_host_by
 nu_called_leaves tune n m l nu eps shrinking budget cr h an =
-    hosted_leaves n cr h an _ _ (answer_long n (eqb (length l) n) m cr h an) (few tune shrinking (nu_called_number tune n m l nu eps shrinking budget cr h an))
+    hosted_leaves n cr h an _ _ (answer_long n (eqb (length l) n) m cr h an) (few tune.floor shrinking (nu_called_number tune n m l nu eps shrinking budget cr h an))
 
 pub one_class_called_leaves : (tune : Tuning) (n : ℕ) (m : List ℕ) (nu eps shrinking budget : ℕ) (cr h an : List ℕ) → HandsBack n 72 cr h an (one_class_host_by tune n m nu eps shrinking budget cr h an)
 unfolding one_class_host_by
 one_class_called_leaves tune n m nu eps shrinking budget cr h an =
-    hosted_leaves n cr h an _ _ (answer_long n true m cr h an) (few tune shrinking (one_class_called_number tune n m nu eps shrinking budget cr h an))
+    hosted_leaves n cr h an _ _ (answer_long n true m cr h an) (few tune.floor shrinking (one_class_called_number tune n m nu eps shrinking budget cr h an))
 
 pub retired_called_leaves : (n : ℕ) (m l c a p r : List ℕ) (nurule eps shrinking budget : ℕ) (t cr h an : List ℕ)
     → HandsBack n 72 cr h an (retired_host n m l c a p r nurule eps shrinking budget t cr h an)
 unfolding retired_host
 retired_called_leaves n m l c a p r nurule eps shrinking budget t cr h an =
-    hosted_leaves n cr h an _ _ (answer_long n (general_inputs n l c a p && eqb (length r) n && tuning_known t) m cr h an)
+    hosted_leaves n cr h an _ _ (answer_long n (general_inputs n l c a p && eqb (length r) n && floor_known t) m cr h an)
     (few_retired (tuning_of t).floor (retired_called_number n m l c a p r nurule eps shrinking budget t cr h an))

@@ -19,7 +19,7 @@ use Rattle.answer.specs.declared.Answer.{Answer}
 use Rattle.answer.specs.declared.Outcome.TheVariants.{Accepted}
 use Rattle.boxed.specs.Range.{In}
 use Rattle.extreme.specs.declared.Choice.TheVariants.{Pair}
-use Rattle.hosted.specs.Hosted.{is_on, as_float, byte_sizes, general_inputs, tuning_known, tuning_of, floats_of, room, Handed, handed, delivered, turned_away, hosted_by, answered_by}
+use Rattle.hosted.specs.Hosted.{is_on, as_float, byte_sizes, general_inputs, floor_known, tuning_of, floats_of, room, Handed, handed, delivered, turned_away, hosted_by, answered_by}
 use Rattle.hosted.proofs.Serves.{Serves, inputs_right, serves}
 use Rattle.hosted.proofs.Worked.{tuning_none}
 use Rattle.promises.specs.Fit.{Fit, weight_after}
@@ -59,7 +59,7 @@ module _ (n : ℕ) (m l c a p r : List ℕ) (nurule eps shrinking budget : ℕ) 
   o = retired_host n m l c a p r nurule eps shrinking budget t cr h an
 
   abbrev inputs : Bool
-  inputs = general_inputs n l c a p && eqb (length r) n && tuning_known t
+  inputs = general_inputs n l c a p && eqb (length r) n && floor_known t
 
   in_time : (byte_sizes n inputs m cr h an ≡ 0) × (o ≡ delivered n w cr h an)
   unfolding retired_host
@@ -78,8 +78,8 @@ module _ (n : ℕ) (m l c a p r : List ℕ) (nurule eps shrinking budget : ℕ) 
       (sym (ap (λ (q : Handed). q.code) in_time.1) ∙ z))
 
   -- the tuning's length is known
-  pub retired_called_tuned : tuning_known t ≡ true
-  retired_called_tuned = (both (general_inputs n l c a p && eqb (length r) n) (tuning_known t) (inputs_right n inputs (length m) (length cr) (length h) (length an) in_time.0)).1
+  pub retired_called_tuned : floor_known t ≡ true
+  retired_called_tuned = (both (general_inputs n l c a p && eqb (length r) n) (floor_known t) (inputs_right n inputs (length m) (length cr) (length h) (length an) in_time.0)).1
 
   -- the training was accepted, and its answer is what is written
   pub retired_called : (z : Answer) × (w.out ≡ Accepted z) × (o.answer ≡ answered_by (Accepted z) an)
@@ -142,7 +142,7 @@ unfolding retired_host
 retired_called_number n m l c a p r nurule eps shrinking budget t cr h an =
     hosted_code (RetiredMayAnswer (tuning_of t).floor) (inl (omega arith, λ z. omega arith)) (inl (omega arith, λ z. omega arith)) (inl (omega arith, λ z. omega arith)) n _ cr h an
     (λ q i e. large q (retired_sized_number (tuning_of t) n m l (floats_of c n) (floats_of a n) (floats_of p n) r (is_on nurule) (as_float eps) (is_on shrinking) budget room q i e))
-    (general_inputs n l c a p && eqb (length r) n && tuning_known t) m
+    (general_inputs n l c a p && eqb (length r) n && floor_known t) m
   where
     large : (q : ℕ) → RetiredNumbered (tuning_of t).floor q → RetiredMayAnswer (tuning_of t).floor q
     large q (inl x) = inl (x.1, x.2)
@@ -175,12 +175,12 @@ hosted_same number w v cr h an same = go (eqb number 0) refl
     go true e = same (eqb-true number 0 e)
     go false e = refl
 
-pub retired_called_nobody : (n : ℕ) (m l c a p r : List ℕ) (nurule eps budget : ℕ) (t cr h an : List ℕ) → length r ≡ n → ((i : ℕ) → i < n → get_or r i 0 ≡ 0) → tuning_known t ≡ true
+pub retired_called_nobody : (n : ℕ) (m l c a p r : List ℕ) (nurule eps budget : ℕ) (t cr h an : List ℕ) → length r ≡ n → ((i : ℕ) → i < n → get_or r i 0 ≡ 0) → floor_known t ≡ true
     → retired_host n m l c a p r nurule eps 0 budget t cr h an ≡ general_host_by (tuning_of t) n m l c a p nurule eps 0 budget cr h an
 unfolding retired_host general_host_by
 retired_called_nobody n m l c a p r nurule eps budget t cr h an long all known =
     let given = general_inputs n l c a p in
-    let same : (given && eqb (length r) n && tuning_known t) ≡ given = rw (eq-eqb (length r) n long, known) (and_true (given && true) ∙ and_true given) in
+    let same : (given && eqb (length r) n && floor_known t) ≡ given = rw (eq-eqb (length r) n long, known) (and_true (given && true) ∙ and_true given) in
     rw same (hosted_same (byte_sizes n given m cr h an) _ _ cr h an
     (λ e. ap (λ (q : Whole). delivered n q cr h an)
     (sized_nobody (tuning_of t) n r long all m l (floats_of c n) (floats_of a n) (floats_of p n) (is_on nurule) (as_float eps) budget room

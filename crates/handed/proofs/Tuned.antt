@@ -165,10 +165,10 @@ module _ (n : ℕ) (m l c a p : List ℕ) (nurule eps shrinking : ℕ) (budget :
       let v = general_tuned_called z in
       rw (general_tuned_is v.0 v.1) (widened_gives (general_gives (tuning_of t) n m l c a p nurule eps shrinking budget cr h an v.2))
 
-  pub general_tuned_number : MayAnswer (tuning_of t) shrinking (general_tuned_host n m l c a p nurule eps shrinking budget t cr h an).code
+  pub general_tuned_number : MayAnswer (tuning_of t).floor shrinking (general_tuned_host n m l c a p nurule eps shrinking budget t cr h an).code
   unfolding general_tuned_host general_host_by
   general_tuned_number =
-      wide_code n (general_inputs n l c a p) m t cr h an _ (MayAnswer (tuning_of t) shrinking) (small_number (tuning_of t) shrinking 1 (omega arith)) (small_number (tuning_of t) shrinking 2 (omega arith))
+      wide_code n (general_inputs n l c a p) m t cr h an _ (MayAnswer (tuning_of t).floor shrinking) (small_number (tuning_of t).floor shrinking 1 (omega arith)) (small_number (tuning_of t).floor shrinking 2 (omega arith))
       (general_called_number (tuning_of t) n m l c a p nurule eps shrinking budget cr h an)
 
   pub general_tuned_leaves : HandsWide n cr h an (general_tuned_host n m l c a p nurule eps shrinking budget t cr h an)
@@ -198,10 +198,10 @@ module _ (n : ℕ) (m l : List ℕ) (cpos cneg eps shrinking : ℕ) (budget : �
       let v = c_tuned_called z in
       rw (c_tuned_is v.0 v.1) (widened_gives (c_gives (tuning_of t) n m l cpos cneg eps shrinking budget cr h an v.2))
 
-  pub c_tuned_number : MayAnswer (tuning_of t) shrinking (c_tuned_host n m l cpos cneg eps shrinking budget t cr h an).code
+  pub c_tuned_number : MayAnswer (tuning_of t).floor shrinking (c_tuned_host n m l cpos cneg eps shrinking budget t cr h an).code
   unfolding c_tuned_host c_host_by
   c_tuned_number =
-      wide_code n (eqb (length l) n) m t cr h an _ (MayAnswer (tuning_of t) shrinking) (small_number (tuning_of t) shrinking 1 (omega arith)) (small_number (tuning_of t) shrinking 2 (omega arith))
+      wide_code n (eqb (length l) n) m t cr h an _ (MayAnswer (tuning_of t).floor shrinking) (small_number (tuning_of t).floor shrinking 1 (omega arith)) (small_number (tuning_of t).floor shrinking 2 (omega arith))
       (c_called_number (tuning_of t) n m l cpos cneg eps shrinking budget cr h an)
 
   pub c_tuned_leaves : HandsWide n cr h an (c_tuned_host n m l cpos cneg eps shrinking budget t cr h an)
@@ -231,10 +231,10 @@ module _ (n : ℕ) (m l : List ℕ) (nu eps shrinking : ℕ) (budget : ℕ) (t c
       let v = nu_tuned_called z in
       rw (nu_tuned_is v.0 v.1) (widened_gives (nu_gives (tuning_of t) n m l nu eps shrinking budget cr h an v.2))
 
-  pub nu_tuned_number : MayAnswer (tuning_of t) shrinking (nu_tuned_host n m l nu eps shrinking budget t cr h an).code
+  pub nu_tuned_number : MayAnswer (tuning_of t).floor shrinking (nu_tuned_host n m l nu eps shrinking budget t cr h an).code
   unfolding nu_tuned_host nu_host_by
   nu_tuned_number =
-      wide_code n (eqb (length l) n) m t cr h an _ (MayAnswer (tuning_of t) shrinking) (small_number (tuning_of t) shrinking 1 (omega arith)) (small_number (tuning_of t) shrinking 2 (omega arith))
+      wide_code n (eqb (length l) n) m t cr h an _ (MayAnswer (tuning_of t).floor shrinking) (small_number (tuning_of t).floor shrinking 1 (omega arith)) (small_number (tuning_of t).floor shrinking 2 (omega arith))
       (nu_called_number (tuning_of t) n m l nu eps shrinking budget cr h an)
 
   pub nu_tuned_leaves : HandsWide n cr h an (nu_tuned_host n m l nu eps shrinking budget t cr h an)
@@ -264,10 +264,10 @@ module _ (n : ℕ) (m : List ℕ) (nu eps shrinking : ℕ) (budget : ℕ) (t cr 
       let v = one_class_tuned_called z in
       rw (one_class_tuned_is v.0 v.1) (widened_gives (one_class_gives (tuning_of t) n m nu eps shrinking budget cr h an v.2))
 
-  pub one_class_tuned_number : MayAnswer (tuning_of t) shrinking (one_class_tuned_host n m nu eps shrinking budget t cr h an).code
+  pub one_class_tuned_number : MayAnswer (tuning_of t).floor shrinking (one_class_tuned_host n m nu eps shrinking budget t cr h an).code
   unfolding one_class_tuned_host one_class_host_by
   one_class_tuned_number =
-      wide_code n true m t cr h an _ (MayAnswer (tuning_of t) shrinking) (small_number (tuning_of t) shrinking 1 (omega arith)) (small_number (tuning_of t) shrinking 2 (omega arith))
+      wide_code n true m t cr h an _ (MayAnswer (tuning_of t).floor shrinking) (small_number (tuning_of t).floor shrinking 1 (omega arith)) (small_number (tuning_of t).floor shrinking 2 (omega arith))
       (one_class_called_number (tuning_of t) n m nu eps shrinking budget cr h an)
 
   pub one_class_tuned_leaves : HandsWide n cr h an (one_class_tuned_host n m nu eps shrinking budget t cr h an)

@@ -2,9 +2,7 @@
 use Rattle.std.specs.Prelude.{ℕ, ◌≤◌, false, cond, List, ◌⊎◌, ◌≡◌, Float}
 use Rattle.judge.specs.Judge.{floor_good}
 use Rattle.hosted.specs.Hosted.{is_on, as_float, floats_of}
-use Rattle.modes.specs.declared.Mode.{Mode}
 use Rattle.promises.specs.Fit.{Fit, general_fit, c_fit, nu_fit, one_class_fit}
-use Rattle.promises.specs.Numbers.{may_lose}
 use Rattle.tuning.specs.declared.Tuning.{Tuning}
 
 -- labels, ceilings, start alphas, linear terms
@@ -20,13 +18,13 @@ nu_trains t n l nu eps shrinking = nu_fit t n l (as_float nu) (as_float eps) (is
 abbrev pub one_class_trains : Tuning → ℕ → (nu eps shrinking : ℕ) → Fit
 one_class_trains t n nu eps shrinking = one_class_fit t n (as_float nu) (as_float eps) (is_on shrinking)
 
--- 11 only with shrinking on, and not repaired
-abbrev pub largest : Mode → ℕ → ℕ
-largest mode shrinking = cond (may_lose mode (is_on shrinking)) 11 10
+-- 11 only with shrinking on
+abbrev pub largest : ℕ → ℕ
+largest shrinking = cond (is_on shrinking) 11 10
 
--- .. and 14 only where the floor isn't good
-abbrev pub MayAnswer : Tuning → ℕ → ℕ → Type 0
-MayAnswer t shrinking k = (k ≤ largest t.mode shrinking) ⊎ ((k ≡ 14) × (floor_good t.floor ≡ false))
+-- .. and 14 only where the floor x isn't good
+abbrev pub MayAnswer : Float → ℕ → ℕ → Type 0
+MayAnswer x shrinking k = (k ≤ largest shrinking) ⊎ ((k ≡ 14) × (floor_good x ≡ false))
 
 -- with retired samples 12 and 13, never 11
 abbrev pub RetiredMayAnswer : Float → ℕ → Type 0

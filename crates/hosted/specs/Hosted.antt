@@ -9,7 +9,7 @@ use Rattle.answer.specs.declared.Outcome.{Outcome}
 use Rattle.answer.specs.declared.Outcome.TheVariants.{Accepted, Refused}
 use Rattle.judge.specs.Sizes.{sizes}
 use Rattle.modes.specs.declared.Mode.{Mode}
-use Rattle.modes.specs.declared.Mode.TheVariants.{Crate, Travelling, Repaired}
+use Rattle.modes.specs.declared.Mode.TheVariants.{Crate, Travelling}
 use Rattle.tuning.specs.Tuning.{tuned}
 use Rattle.tuning.specs.declared.Tuning.{Tuning}
 use Rattle.wire.specs.Wire.{digits, float_at, with_digits, with_float}
@@ -53,9 +53,12 @@ as_float w = of_bits binary64 w
 abbrev pub words_at_most : ℕ → List ℕ → Bool
 words_at_most most t = eqb (length t % 8) 0 && leb (length t / 8) most
 
--- three: the floor, whether ceilings travel, and whether shrinking is repaired
+-- two: the floor, and whether ceilings travel; where samples may be retired the floor alone
 abbrev pub tuning_known : List ℕ → Bool
-tuning_known = words_at_most 3
+tuning_known = words_at_most 2
+
+abbrev pub floor_known : List ℕ → Bool
+floor_known = words_at_most 1
 
 -- a word that isn't there is its default
 unfoldable pub floor_of : List ℕ → Float
@@ -64,9 +67,8 @@ floor_of t = cond (leb 8 (length t)) (float_at t 0) Weight.floor
 unfoldable pub word_on : List ℕ → ℕ → Bool
 word_on t at = cond (leb (at + 8) (length t)) (is_on (digits t at 8)) false
 
--- the third word wins over the second
 unfoldable pub mode_of : List ℕ → Mode
-mode_of t = cond (word_on t 16) Repaired (cond (word_on t 8) Travelling Crate)
+mode_of t = cond (word_on t 8) Travelling Crate
 
 abbrev pub tuning_of : List ℕ → Tuning
 tuning_of t = tuned (floor_of t) (mode_of t)

@@ -1,7 +1,8 @@
 // Lists and answers as the host's bytes.
+#![tactic(auto)]
 ghost use Rattle.std.specs.Prelude.{◌≡◌, Bool, ℕ, ◌+◌, ◌*◌, ◌≤◌, ◌<◌, length};
 ghost use Rattle.answer.specs.Answer.{ratio_there, ratio_bits, reason_number, words_of};
-ghost use Rattle.hosted.specs.Hosted.{decoded_to, stored_to, words_to, answered_by, eights, zeroed_to, padded, tuning_known, floor_of, word_on, mode_of, tuning_of, host_sizes, Handed, handed, delivered_by, turned_away, turned_wide, fresh_places, fresh_floats, fresh_numbers, fresh_bytes, fresh_sheet};
+ghost use Rattle.hosted.specs.Hosted.{decoded_to, stored_to, words_to, answered_by, eights, zeroed_to, padded, tuning_known, floor_known, floor_of, word_on, mode_of, tuning_of, host_sizes, Handed, handed, delivered_by, turned_away, turned_wide, fresh_places, fresh_floats, fresh_numbers, fresh_bytes, fresh_sheet};
 
 use alpha::Alpha;
 use answer::{ExitReason, Outcome, Ratio};
@@ -104,7 +105,14 @@ pub fn pad(out: &mut [u8])
 pub fn is_tuning(t: &[u8]) -> bool
     ensures { result ≡ tuning_known t.now }
 {
-    (t.len() % 8 == 0) & (t.len() / 8 <= 3)
+    (t.len() % 8 == 0) & (t.len() / 8 <= 2)
+}
+
+// .. where samples may be retired.
+pub fn is_floor(t: &[u8]) -> bool
+    ensures { result ≡ floor_known t.now }
+{
+    (t.len() % 8 == 0) & (t.len() / 8 <= 1)
 }
 
 fn floor_of(t: &[u8]) -> f64
@@ -118,7 +126,7 @@ fn floor_of(t: &[u8]) -> f64
 
 // Whether the word that begins at byte `at` is there, and isn't 0.
 fn word_on(t: &[u8], at: usize) -> bool
-    requires { at ≤ 16 }
+    requires { at ≤ 8 }
     ensures { result ≡ word_on t.now at }
 {
     if at + 8 <= t.len() {
@@ -130,9 +138,6 @@ fn word_on(t: &[u8], at: usize) -> bool
 fn mode_of(t: &[u8]) -> Mode
     ensures { result ≡ mode_of t.now }
 {
-    if word_on(t, 16) {
-        return Mode::Repaired;
-    }
     if word_on(t, 8) {
         return Mode::Travelling;
     }

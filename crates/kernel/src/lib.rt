@@ -1,4 +1,5 @@
 // The lent kernel matrix. A reader answers each entry; what other crates call takes plain slices.
+#![tactic(auto)]
 ghost use Rattle.std.specs.Prelude.{Bool, cond, ◌≡◌, ◌≤◌, ◌<◌, length};
 ghost use Rattle.std.specs.Float.{binary64};
 ghost use Rattle.std.specs.Float.Ieee.{neg, mul};
@@ -8,14 +9,14 @@ ghost use Rattle.kernel.specs.Matrix.{entry_at, Matrix};
 ghost use Rattle.kernel.specs.Row.{kernel_index, Indexed, alike_of, signed_of, reach_of, row_at};
 
 // Whose kernel it is: with two classes an entry between different labels is negated.
-#[derive(Drop)]
+#[derive(Clone, Copy)]
 pub enum Kind {
     TwoClass,
     OneClass,
 }
 
 // The lent matrix and its side. Functions over a reader are proved by hand, so it doesn't leave this file.
-#[derive(Drop)]
+#[derive(Clone, Copy)]
 struct Reader<'a> {
     matrix: &'a [u8],
     side: usize,

@@ -1,4 +1,6 @@
 // Lent lists whose first n places are to hold one value.
+#![tactic(auto)]
+
 ghost use Rattle.std.specs.Prelude.{◌≡◌, ◌≤◌, length};
 ghost use Rattle.lists.specs.Filled.{filled_to};
 

@@ -1,5 +1,6 @@
 // The second of the pair, and the choice, for both rules.
 // The parameters f, u, y are the lent lists, and n, side, kind, m what a run is given: state/specs/Lists.antt.
+#![tactic(auto)]
 ghost use Rattle.std.specs.Prelude.{cond, ◌≡◌, ◌+◌, ◌*◌, ◌≤◌, ◌<◌, eqb, length, get_or};
 ghost use Rattle.extreme.specs.Best.{Below, nobody as nobodyAt};
 ghost use Rattle.kernel.specs.Row.{Indexed};
@@ -73,7 +74,7 @@ pub fn gain_of(d: f64, q: f64) -> f64
 }
 
 // What the loop over the second asks of a lead. A lead that nobody holds has its top at minus infinity, so that nobody follows it.
-#[derive(Drop)]
+#[derive(Clone, Copy)]
 struct Lead {
     top: f64,
     index: usize,

@@ -1,5 +1,6 @@
 // The pair choice of a training without an order table: the least by lanes, and the second behind a bar.
 // The parameters f and y are the lent floats and labels: orderless/specs/Sheet.antt.
+#![tactic(auto)]
 ghost use Rattle.std.specs.Prelude.{true, false, not, cond, ◌≡◌, ◌+◌, ◌-◌, ◌*◌, ◌≤◌, ◌<◌, length, get_or};
 ghost use Rattle.std.specs.Float.{binary64, inf, nan};
 ghost use Rattle.std.specs.Float.Ieee.{sub, lt};
@@ -67,7 +68,7 @@ fn stop(f: &[f64], y: &[u8], n: usize, nu: bool, eps: f64, p: f64, q: f64) -> bo
 }
 
 // What the loop over the second asks of a first.
-#[derive(Drop)]
+#[derive(Clone, Copy)]
 struct First {
     value: f64,
     at: usize,

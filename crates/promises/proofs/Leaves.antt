@@ -150,9 +150,9 @@ module _ {k : Fit} {m : List ℕ} {budget : ℕ} {d : Lent} {o : Whole} (v : Ser
   unfolding fitted solved
   served_leaves = rw v.same (settled_leaves (stuck w.run.status))
 
-not_eleven : (t : Tuning) (k : ℕ) → Numbered t false k → k ≡ 11 → ⊥
-not_eleven t k (inl h) e = omega arith
-not_eleven t k (inr h) e = let q = h.0 in omega arith
+not_eleven : (x : Float) (k : ℕ) → Numbered x false k → k ≡ 11 → ⊥
+not_eleven x k (inl h) e = omega arith
+not_eleven x k (inr h) e = let q = h.0 in omega arith
 
 not_eleven_retired : (x : Float) (k : ℕ) → RetiredNumbered x k → k ≡ 11 → ⊥
 not_eleven_retired x k (inl h) e = h.2 e
@@ -165,7 +165,7 @@ module _ (tune : Tuning) (n : ℕ) (m l : List ℕ) (c a p : List Float) (nurule
   unfolding general_tuned general_tuned_sized decided
   general_leaves =
       entry_leaves n (eqb (length l) n && eqb (length c) n && eqb (length a) n && eqb (length p) n) m (floor_judged tune.floor (general_judged n m l c a p eps budget)) _ d
-      (λ q i e. not_eleven tune q (general_sized_number tune n m l c a p nurule eps false budget d q i (rw e)))
+      (λ q i e. not_eleven tune.floor q (general_sized_number tune n m l c a p nurule eps false budget d q i (rw e)))
       (λ r f. served_leaves {k = general_fit tune n l c a p nurule eps shrinking} (record { square = refl; room = r; usable = usable_general n m budget r.most r.matrix l c a p eps (floor_fine tune.floor _ f).0; same = refl }))
 
 module _ (tune : Tuning) (n : ℕ) (m l : List ℕ) (cpos cneg eps : Float) (shrinking : Bool) (budget : ℕ) (d : Lent) where
@@ -173,7 +173,7 @@ module _ (tune : Tuning) (n : ℕ) (m l : List ℕ) (cpos cneg eps : Float) (shr
   unfolding fit_cTuned fit_cTuned_sized decided
   c_leaves =
       entry_leaves n (eqb (length l) n) m (floor_judged tune.floor (c_judged n m l cpos cneg eps budget)) _ d
-      (λ q i e. not_eleven tune q (c_sized_number tune n m l cpos cneg eps false budget d q i (rw e)))
+      (λ q i e. not_eleven tune.floor q (c_sized_number tune n m l cpos cneg eps false budget d q i (rw e)))
       (λ r f. served_leaves {k = c_fit tune n l cpos cneg eps shrinking} (record { square = refl; room = r; usable = usable_c n m budget r.most r.matrix l cpos cneg eps (floor_fine tune.floor _ f).0; same = refl }))
 
 module _ (tune : Tuning) (n : ℕ) (m l : List ℕ) (nu eps : Float) (shrinking : Bool) (budget : ℕ) (d : Lent) where
@@ -181,7 +181,7 @@ module _ (tune : Tuning) (n : ℕ) (m l : List ℕ) (nu eps : Float) (shrinking 
   unfolding fit_nu_tuned fit_nu_tuned_sized decided
   nu_leaves =
       entry_leaves n (eqb (length l) n) m (floor_judged tune.floor (nu_judged n m l nu eps budget)) _ d
-      (λ q i e. not_eleven tune q (nu_sized_number tune n m l nu eps false budget d q i (rw e)))
+      (λ q i e. not_eleven tune.floor q (nu_sized_number tune n m l nu eps false budget d q i (rw e)))
       (λ r f. served_leaves {k = nu_fit tune n l nu eps shrinking} (record { square = refl; room = r; usable = usable_nu n m budget r.most r.matrix l nu eps (floor_fine tune.floor _ f).0; same = refl }))
 
 module _ (tune : Tuning) (n : ℕ) (m : List ℕ) (nu eps : Float) (shrinking : Bool) (budget : ℕ) (d : Lent) where
@@ -189,7 +189,7 @@ module _ (tune : Tuning) (n : ℕ) (m : List ℕ) (nu eps : Float) (shrinking : 
   unfolding fit_one_class_tuned fit_one_class_tuned_sized decided
   one_class_leaves =
       entry_leaves n true m (floor_judged tune.floor (one_class_judged n m nu eps budget)) _ d
-      (λ q i e. not_eleven tune q (one_class_sized_number tune n m nu eps false budget d q i (rw e)))
+      (λ q i e. not_eleven tune.floor q (one_class_sized_number tune n m nu eps false budget d q i (rw e)))
       (λ r f. served_leaves {k = one_class_fit tune n nu eps shrinking} (record { square = refl; room = r; usable = usable_one_class n m budget r.most r.matrix nu eps (floor_fine tune.floor _ f).0; same = refl }))
 
 -- ---- the entry with retired samples, which never refuses with 11

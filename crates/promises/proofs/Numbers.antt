@@ -1,4 +1,4 @@
--- The number that the rule gives an entry's outcome: from 1 to 11 where it refuses, with shrinking off or repaired to 10, with retired samples 12 and 13 but never 11,
+-- The number that the rule gives an entry's outcome: from 1 to 11 where it refuses, with shrinking off to 10, with retired samples 12 and 13 but never 11,
 -- and 14 where the floor isn't good; 0 only where it accepts. Assumes nothing.
 use Prim.Native.Nat.{ℕ, zero, suc, ◌*◌, ◌≤◌}
 use mathlib.Core.Bool.{Bool, true, false, not, ◌&&◌, ◌||◌, cond, true≢false}
@@ -27,21 +27,14 @@ use Rattle.judge.specs.Sizes.{count_good, room_good, sizes}
 use Rattle.judge.specs.declared.Judged.{Judged}
 use Rattle.judge.specs.declared.Judged.TheVariants.{Fine, Bad}
 use Rattle.kernel.specs.declared.Kind.TheVariants.{TwoClass, OneClass}
-use Rattle.modes.specs.Modes.{repaired}
 use Rattle.retired.specs.Entry.{stands_in, kept, answered_over, fitted_over, retired_tuned_sized, retired_tuned}
 use Rattle.rounding.proofs.Order.{both}
-use Rattle.solver.specs.End.{trained}
 use Rattle.solver.specs.Run.{Full}
 use Rattle.solver.specs.declared.Given.{Given}
-use Rattle.solver.specs.declared.Status.{Status}
-use Rattle.solver.specs.declared.Status.TheVariants.{Going, Done, Refused}
-use Rattle.state.specs.Lists.{State}
-use Rattle.trace.proofs.Open.{trained_open}
 use Rattle.classification.proofs.Plain.{plain_good}
 use Rattle.classification.proofs.Still.{trained_still}
-use Rattle.tuning.specs.Tuning.{plain_tuning}
 use Rattle.tuning.specs.declared.Tuning.{Tuning}
-use Rattle.promises.specs.Numbers.{may_lose, Numbered, RetiredNumbered}
+use Rattle.promises.specs.Numbers.{Numbered, RetiredNumbered}
 use Rattle.promises.specs.Still.{c_number, nu_number, one_class_number}
 
 abbrev most : Bool → ℕ
@@ -194,25 +187,10 @@ settled_so x true true g how l budget w c h s = refl
 settled_so x false true g how l budget w c h s = absurd (true≢false (s refl))
 settled_so x q false g how l budget w c h s = refl
 
--- shrinking is off, or repaired
-not_refused : (s : Status) → (s ≡ Refused → ⊥) → stuck s ≡ false
-unfolding stuck
-not_refused Going o = refl
-not_refused Done o = refl
-not_refused Refused o = absurd (o refl)
-
-trained_free : (g : Given) (m : List ℕ) (c : List Float) (budget : ℕ) (s : State) → may_lose g.mode g.shrinking ≡ false → stuck (trained g m c budget s).run.status ≡ false
-trained_free g m c budget s = go g.shrinking refl (repaired g.mode) refl
-  where
-    go : (a : Bool) → g.shrinking ≡ a → (b : Bool) → repaired g.mode ≡ b → (a && not b) ≡ false → stuck (trained g m c budget s).run.status ≡ false
-    go false off b e h = (trained_still g m c off _ budget s refl).free
-    go true on true e h = not_refused _ (trained_open g m e c budget s)
-    go true on false e h = absurd (true≢false h)
-
-fitted_so : (x : Float) (g : Given) (how : Finish) (m l : List ℕ) (c a p : List Float) (budget : ℕ) (d : Lent) → numbered (or_floor x (listed (may_lose g.mode g.shrinking))) (fitted g how m l c a p budget d).out ≡ true
+fitted_so : (x : Float) (g : Given) (how : Finish) (m l : List ℕ) (c a p : List Float) (budget : ℕ) (d : Lent) → numbered (or_floor x (listed g.shrinking)) (fitted g how m l c a p budget d).out ≡ true
 unfolding fitted solved
 fitted_so x g how m l c a p budget d =
-    settled_so x (may_lose g.mode g.shrinking) (stuck _) g how l budget _ d.crate d.home (λ h. trained_free g m c budget _ h)
+    settled_so x g.shrinking (stuck _) g how l budget _ d.crate d.home (λ off. (trained_still g m c off _ budget _ refl).free)
 
 -- ---- what that says
 
@@ -220,29 +198,25 @@ refused_so : (ok : ℕ → Bool) (o : Outcome) → numbered ok o ≡ true → (n
 unfolding numbered
 refused_so ok o h k i e = rw e at h
 
-number_of : (t : Tuning) (shrinking : Bool) (o : Outcome) → numbered (or_floor t.floor (listed (may_lose t.mode shrinking))) o ≡ true → (number index : ℕ) → o ≡ Refused number index → Numbered t shrinking number
-number_of t shrinking o h k i e =
-    let x = t.floor in
-    let q = may_lose t.mode shrinking in
+number_of : (x : Float) (q : Bool) (o : Outcome) → numbered (or_floor x (listed q)) o ≡ true → (number index : ℕ) → o ≡ Refused number index → Numbered x q number
+number_of x q o h k i e =
     elim (floor_or x (listed q) k (refused_so (or_floor x (listed q)) o h k i e)) [
       | inl g ↦ let p = both (some k) (leb k (most q)) g in inl (leb-true 1 k p.0, leb-true k (most q) p.1)
       | inr g ↦ inr g
     ]
 
-pub some_number : (t : Tuning) (shrinking : Bool) (k : ℕ) → Numbered t shrinking k → 1 ≤ k
-some_number t shrinking k (inl h) = h.0
-some_number t shrinking k (inr h) = let e = h.0 in omega arith
+pub some_number : (x : Float) (q : Bool) (k : ℕ) → Numbered x q k → 1 ≤ k
+some_number x q k (inl h) = h.0
+some_number x q k (inr h) = let e = h.0 in omega arith
 
 pub some_retired : (x : Float) (k : ℕ) → RetiredNumbered x k → 1 ≤ k
 some_retired x k (inl h) = h.0
 some_retired x k (inr h) = let e = h.0 in omega arith
 
 -- the published Rust's floor is good
-pub plain_number : (shrinking : Bool) (k : ℕ) → Numbered plain_tuning shrinking k → (1 ≤ k) × (k ≤ cond shrinking 11 10)
-unfolding repaired
-plain_number true k (inl h) = h
-plain_number false k (inl h) = h
-plain_number shrinking k (inr h) = absurd (true≢false (sym plain_good ∙ h.1))
+pub plain_number : (q : Bool) (k : ℕ) → Numbered Weight.floor q k → (1 ≤ k) × (k ≤ cond q 11 10)
+plain_number q k (inl h) = h
+plain_number q k (inr h) = absurd (true≢false (sym plain_good ∙ h.1))
 
 pub plain_retired : (k : ℕ) → RetiredNumbered Weight.floor k → (1 ≤ k) × (k ≤ 13) × (k ≡ 11 → ⊥)
 plain_retired k (inl h) = h
@@ -259,30 +233,30 @@ none_listed x q h = true≢false (sym h)
 
 -- ---- the entries
 
-abbrev allowed : Tuning → Bool → ℕ → Bool
-allowed t shrinking = or_floor t.floor (listed (may_lose t.mode shrinking))
+abbrev allowed : Float → Bool → ℕ → Bool
+allowed x shrinking = or_floor x (listed shrinking)
 
-ten_allowed : (t : Tuning) (shrinking : Bool) (k : ℕ) → listed false k ≡ true → allowed t shrinking k ≡ true
-ten_allowed t shrinking = let q = may_lose t.mode shrinking in with_floor t.floor (listed q) (at_most_ten q)
+ten_allowed : (x : Float) (shrinking : Bool) (k : ℕ) → listed false k ≡ true → allowed x shrinking k ≡ true
+ten_allowed x shrinking = with_floor x (listed shrinking) (at_most_ten shrinking)
 
 module _ (tune : Tuning) (n : ℕ) (m l : List ℕ) (c a p : List Float) (nurule : Bool) (eps : Float) (shrinking : Bool) (budget : ℕ) (d : Lent) where
-  general_sized_so : numbered (allowed tune shrinking) (general_tuned_sized tune n m l c a p nurule eps shrinking budget d).out ≡ true
+  general_sized_so : numbered (allowed tune.floor shrinking) (general_tuned_sized tune n m l c a p nurule eps shrinking budget d).out ≡ true
   unfolding general_tuned_sized
-  general_sized_so = decided_so (allowed tune shrinking) (ten_allowed tune shrinking) _ (fitted (given_by tune n TwoClass eps shrinking nurule) Plain m l c a p budget d) d (floor_so (allowed tune shrinking) (ten_allowed tune shrinking) tune.floor (fourteen tune.floor (listed (may_lose tune.mode shrinking))) _ (general_so (allowed tune shrinking) (ten_allowed tune shrinking) n m l c a p eps budget)) (fitted_so tune.floor (given_by tune n TwoClass eps shrinking nurule) Plain m l c a p budget d)
+  general_sized_so = decided_so (allowed tune.floor shrinking) (ten_allowed tune.floor shrinking) _ (fitted (given_by tune n TwoClass eps shrinking nurule) Plain m l c a p budget d) d (floor_so (allowed tune.floor shrinking) (ten_allowed tune.floor shrinking) tune.floor (fourteen tune.floor (listed shrinking)) _ (general_so (allowed tune.floor shrinking) (ten_allowed tune.floor shrinking) n m l c a p eps budget)) (fitted_so tune.floor (given_by tune n TwoClass eps shrinking nurule) Plain m l c a p budget d)
 
-  general_entry_so : numbered (allowed tune shrinking) (general_tuned tune n m l c a p nurule eps shrinking budget d).out ≡ true
+  general_entry_so : numbered (allowed tune.floor shrinking) (general_tuned tune n m l c a p nurule eps shrinking budget d).out ≡ true
   unfolding general_tuned
-  general_entry_so = entered_so (allowed tune shrinking) (ten_allowed tune shrinking) n (eqb (length l) n && eqb (length c) n && eqb (length a) n && eqb (length p) n) m (general_tuned_sized tune n m l c a p nurule eps shrinking budget d) d general_sized_so
+  general_entry_so = entered_so (allowed tune.floor shrinking) (ten_allowed tune.floor shrinking) n (eqb (length l) n && eqb (length c) n && eqb (length a) n && eqb (length p) n) m (general_tuned_sized tune n m l c a p nurule eps shrinking budget d) d general_sized_so
 
   -- without the sizes
-  pub general_sized_number : (number index : ℕ) → (general_tuned_sized tune n m l c a p nurule eps shrinking budget d).out ≡ Refused number index → Numbered tune shrinking number
-  general_sized_number = number_of tune shrinking _ general_sized_so
+  pub general_sized_number : (number index : ℕ) → (general_tuned_sized tune n m l c a p nurule eps shrinking budget d).out ≡ Refused number index → Numbered tune.floor shrinking number
+  general_sized_number = number_of tune.floor shrinking _ general_sized_so
 
-  pub general_number : (number index : ℕ) → (general_tuned tune n m l c a p nurule eps shrinking budget d).out ≡ Refused number index → Numbered tune shrinking number
-  general_number = number_of tune shrinking _ general_entry_so
+  pub general_number : (number index : ℕ) → (general_tuned tune n m l c a p nurule eps shrinking budget d).out ≡ Refused number index → Numbered tune.floor shrinking number
+  general_number = number_of tune.floor shrinking _ general_entry_so
 
   pub general_accepts : get_or (words_of (general_tuned tune n m l c a p nurule eps shrinking budget d).out) 0 0 ≡ 0 → (x : Answer) × ((general_tuned tune n m l c a p nurule eps shrinking budget d).out ≡ Accepted x)
-  general_accepts = accepted_by (allowed tune shrinking) _ (none_listed tune.floor (may_lose tune.mode shrinking)) general_entry_so
+  general_accepts = accepted_by (allowed tune.floor shrinking) _ (none_listed tune.floor shrinking) general_entry_so
 
 -- with retired samples: 1 to 10, 12 and 13
 abbrev is_retired_number : ℕ → Bool
@@ -340,58 +314,58 @@ module _ (tune : Tuning) (n : ℕ) (m l : List ℕ) (c a p : List Float) (r : Li
   retired_accepts = accepted_by (retired_allowed tune.floor) _ (λ z. unfold or_floor in true≢false (sym z)) retired_entry_so
 
 module _ (tune : Tuning) (n : ℕ) (m l : List ℕ) (cpos cneg eps : Float) (shrinking : Bool) (budget : ℕ) (d : Lent) where
-  c_sized_so : numbered (allowed tune shrinking) (fit_cTuned_sized tune n m l cpos cneg eps shrinking budget d).out ≡ true
+  c_sized_so : numbered (allowed tune.floor shrinking) (fit_cTuned_sized tune n m l cpos cneg eps shrinking budget d).out ≡ true
   unfolding fit_cTuned_sized
-  c_sized_so = decided_so (allowed tune shrinking) (ten_allowed tune shrinking) _ (fitted (given_by tune n TwoClass eps shrinking false) Signed m l (costs_to cpos cneg l nothing n) nothing (evenly minus_one n) budget d) d (floor_so (allowed tune shrinking) (ten_allowed tune shrinking) tune.floor (fourteen tune.floor (listed (may_lose tune.mode shrinking))) _ (c_so (allowed tune shrinking) (ten_allowed tune shrinking 3 refl) (ten_allowed tune shrinking 4 refl) (ten_allowed tune shrinking 5 refl) (ten_allowed tune shrinking 8 refl) (ten_allowed tune shrinking 10 refl) n m l cpos cneg eps budget)) (fitted_so tune.floor (given_by tune n TwoClass eps shrinking false) Signed m l (costs_to cpos cneg l nothing n) nothing (evenly minus_one n) budget d)
+  c_sized_so = decided_so (allowed tune.floor shrinking) (ten_allowed tune.floor shrinking) _ (fitted (given_by tune n TwoClass eps shrinking false) Signed m l (costs_to cpos cneg l nothing n) nothing (evenly minus_one n) budget d) d (floor_so (allowed tune.floor shrinking) (ten_allowed tune.floor shrinking) tune.floor (fourteen tune.floor (listed shrinking)) _ (c_so (allowed tune.floor shrinking) (ten_allowed tune.floor shrinking 3 refl) (ten_allowed tune.floor shrinking 4 refl) (ten_allowed tune.floor shrinking 5 refl) (ten_allowed tune.floor shrinking 8 refl) (ten_allowed tune.floor shrinking 10 refl) n m l cpos cneg eps budget)) (fitted_so tune.floor (given_by tune n TwoClass eps shrinking false) Signed m l (costs_to cpos cneg l nothing n) nothing (evenly minus_one n) budget d)
 
-  c_entry_so : numbered (allowed tune shrinking) (fit_cTuned tune n m l cpos cneg eps shrinking budget d).out ≡ true
+  c_entry_so : numbered (allowed tune.floor shrinking) (fit_cTuned tune n m l cpos cneg eps shrinking budget d).out ≡ true
   unfolding fit_cTuned
-  c_entry_so = entered_so (allowed tune shrinking) (ten_allowed tune shrinking) n (eqb (length l) n) m (fit_cTuned_sized tune n m l cpos cneg eps shrinking budget d) d c_sized_so
+  c_entry_so = entered_so (allowed tune.floor shrinking) (ten_allowed tune.floor shrinking) n (eqb (length l) n) m (fit_cTuned_sized tune n m l cpos cneg eps shrinking budget d) d c_sized_so
 
   -- without the sizes
-  pub c_sized_number : (number index : ℕ) → (fit_cTuned_sized tune n m l cpos cneg eps shrinking budget d).out ≡ Refused number index → Numbered tune shrinking number
-  c_sized_number = number_of tune shrinking _ c_sized_so
+  pub c_sized_number : (number index : ℕ) → (fit_cTuned_sized tune n m l cpos cneg eps shrinking budget d).out ≡ Refused number index → Numbered tune.floor shrinking number
+  c_sized_number = number_of tune.floor shrinking _ c_sized_so
 
-  pub c_number_law : (number index : ℕ) → (fit_cTuned tune n m l cpos cneg eps shrinking budget d).out ≡ Refused number index → Numbered tune shrinking number
-  c_number_law = number_of tune shrinking _ c_entry_so
+  pub c_number_law : (number index : ℕ) → (fit_cTuned tune n m l cpos cneg eps shrinking budget d).out ≡ Refused number index → Numbered tune.floor shrinking number
+  c_number_law = number_of tune.floor shrinking _ c_entry_so
 
   pub c_accepts : get_or (words_of (fit_cTuned tune n m l cpos cneg eps shrinking budget d).out) 0 0 ≡ 0 → (x : Answer) × ((fit_cTuned tune n m l cpos cneg eps shrinking budget d).out ≡ Accepted x)
-  c_accepts = accepted_by (allowed tune shrinking) _ (none_listed tune.floor (may_lose tune.mode shrinking)) c_entry_so
+  c_accepts = accepted_by (allowed tune.floor shrinking) _ (none_listed tune.floor shrinking) c_entry_so
 
 module _ (tune : Tuning) (n : ℕ) (m l : List ℕ) (nu eps : Float) (shrinking : Bool) (budget : ℕ) (d : Lent) where
-  nu_sized_so : numbered (allowed tune shrinking) (fit_nu_tuned_sized tune n m l nu eps shrinking budget d).out ≡ true
+  nu_sized_so : numbered (allowed tune.floor shrinking) (fit_nu_tuned_sized tune n m l nu eps shrinking budget d).out ≡ true
   unfolding fit_nu_tuned_sized
-  nu_sized_so = decided_so (allowed tune shrinking) (ten_allowed tune shrinking) _ (fitted (given_by tune n TwoClass eps shrinking true) Scaled m l (evenly one n) (shared_to (half nu n) l nothing n) nothing budget d) d (floor_so (allowed tune shrinking) (ten_allowed tune shrinking) tune.floor (fourteen tune.floor (listed (may_lose tune.mode shrinking))) _ (nu_so (allowed tune shrinking) (ten_allowed tune shrinking 3 refl) (ten_allowed tune shrinking 4 refl) (ten_allowed tune shrinking 8 refl) (ten_allowed tune shrinking 9 refl) (ten_allowed tune shrinking 10 refl) n m l nu eps budget)) (fitted_so tune.floor (given_by tune n TwoClass eps shrinking true) Scaled m l (evenly one n) (shared_to (half nu n) l nothing n) nothing budget d)
+  nu_sized_so = decided_so (allowed tune.floor shrinking) (ten_allowed tune.floor shrinking) _ (fitted (given_by tune n TwoClass eps shrinking true) Scaled m l (evenly one n) (shared_to (half nu n) l nothing n) nothing budget d) d (floor_so (allowed tune.floor shrinking) (ten_allowed tune.floor shrinking) tune.floor (fourteen tune.floor (listed shrinking)) _ (nu_so (allowed tune.floor shrinking) (ten_allowed tune.floor shrinking 3 refl) (ten_allowed tune.floor shrinking 4 refl) (ten_allowed tune.floor shrinking 8 refl) (ten_allowed tune.floor shrinking 9 refl) (ten_allowed tune.floor shrinking 10 refl) n m l nu eps budget)) (fitted_so tune.floor (given_by tune n TwoClass eps shrinking true) Scaled m l (evenly one n) (shared_to (half nu n) l nothing n) nothing budget d)
 
-  nu_entry_so : numbered (allowed tune shrinking) (fit_nu_tuned tune n m l nu eps shrinking budget d).out ≡ true
+  nu_entry_so : numbered (allowed tune.floor shrinking) (fit_nu_tuned tune n m l nu eps shrinking budget d).out ≡ true
   unfolding fit_nu_tuned
-  nu_entry_so = entered_so (allowed tune shrinking) (ten_allowed tune shrinking) n (eqb (length l) n) m (fit_nu_tuned_sized tune n m l nu eps shrinking budget d) d nu_sized_so
+  nu_entry_so = entered_so (allowed tune.floor shrinking) (ten_allowed tune.floor shrinking) n (eqb (length l) n) m (fit_nu_tuned_sized tune n m l nu eps shrinking budget d) d nu_sized_so
 
   -- without the sizes
-  pub nu_sized_number : (number index : ℕ) → (fit_nu_tuned_sized tune n m l nu eps shrinking budget d).out ≡ Refused number index → Numbered tune shrinking number
-  nu_sized_number = number_of tune shrinking _ nu_sized_so
+  pub nu_sized_number : (number index : ℕ) → (fit_nu_tuned_sized tune n m l nu eps shrinking budget d).out ≡ Refused number index → Numbered tune.floor shrinking number
+  nu_sized_number = number_of tune.floor shrinking _ nu_sized_so
 
-  pub nu_number_law : (number index : ℕ) → (fit_nu_tuned tune n m l nu eps shrinking budget d).out ≡ Refused number index → Numbered tune shrinking number
-  nu_number_law = number_of tune shrinking _ nu_entry_so
+  pub nu_number_law : (number index : ℕ) → (fit_nu_tuned tune n m l nu eps shrinking budget d).out ≡ Refused number index → Numbered tune.floor shrinking number
+  nu_number_law = number_of tune.floor shrinking _ nu_entry_so
 
   pub nu_accepts : get_or (words_of (fit_nu_tuned tune n m l nu eps shrinking budget d).out) 0 0 ≡ 0 → (x : Answer) × ((fit_nu_tuned tune n m l nu eps shrinking budget d).out ≡ Accepted x)
-  nu_accepts = accepted_by (allowed tune shrinking) _ (none_listed tune.floor (may_lose tune.mode shrinking)) nu_entry_so
+  nu_accepts = accepted_by (allowed tune.floor shrinking) _ (none_listed tune.floor shrinking) nu_entry_so
 
 module _ (tune : Tuning) (n : ℕ) (m : List ℕ) (nu eps : Float) (shrinking : Bool) (budget : ℕ) (d : Lent) where
-  one_class_sized_so : numbered (allowed tune shrinking) (fit_one_class_tuned_sized tune n m nu eps shrinking budget d).out ≡ true
+  one_class_sized_so : numbered (allowed tune.floor shrinking) (fit_one_class_tuned_sized tune n m nu eps shrinking budget d).out ≡ true
   unfolding fit_one_class_tuned_sized
-  one_class_sized_so = decided_so (allowed tune shrinking) (ten_allowed tune shrinking) _ (fitted (given_by tune n OneClass eps shrinking false) Plain m (all_positive n) (evenly one n) (one_class_to nu n nothing n) nothing budget d) d (floor_so (allowed tune shrinking) (ten_allowed tune shrinking) tune.floor (fourteen tune.floor (listed (may_lose tune.mode shrinking))) _ (one_class_so (allowed tune shrinking) (ten_allowed tune shrinking 3 refl) (ten_allowed tune shrinking 8 refl) (ten_allowed tune shrinking 9 refl) (ten_allowed tune shrinking 10 refl) n m nu eps budget)) (fitted_so tune.floor (given_by tune n OneClass eps shrinking false) Plain m (all_positive n) (evenly one n) (one_class_to nu n nothing n) nothing budget d)
+  one_class_sized_so = decided_so (allowed tune.floor shrinking) (ten_allowed tune.floor shrinking) _ (fitted (given_by tune n OneClass eps shrinking false) Plain m (all_positive n) (evenly one n) (one_class_to nu n nothing n) nothing budget d) d (floor_so (allowed tune.floor shrinking) (ten_allowed tune.floor shrinking) tune.floor (fourteen tune.floor (listed shrinking)) _ (one_class_so (allowed tune.floor shrinking) (ten_allowed tune.floor shrinking 3 refl) (ten_allowed tune.floor shrinking 8 refl) (ten_allowed tune.floor shrinking 9 refl) (ten_allowed tune.floor shrinking 10 refl) n m nu eps budget)) (fitted_so tune.floor (given_by tune n OneClass eps shrinking false) Plain m (all_positive n) (evenly one n) (one_class_to nu n nothing n) nothing budget d)
 
-  one_class_entry_so : numbered (allowed tune shrinking) (fit_one_class_tuned tune n m nu eps shrinking budget d).out ≡ true
+  one_class_entry_so : numbered (allowed tune.floor shrinking) (fit_one_class_tuned tune n m nu eps shrinking budget d).out ≡ true
   unfolding fit_one_class_tuned
-  one_class_entry_so = entered_so (allowed tune shrinking) (ten_allowed tune shrinking) n true m (fit_one_class_tuned_sized tune n m nu eps shrinking budget d) d one_class_sized_so
+  one_class_entry_so = entered_so (allowed tune.floor shrinking) (ten_allowed tune.floor shrinking) n true m (fit_one_class_tuned_sized tune n m nu eps shrinking budget d) d one_class_sized_so
 
   -- without the sizes
-  pub one_class_sized_number : (number index : ℕ) → (fit_one_class_tuned_sized tune n m nu eps shrinking budget d).out ≡ Refused number index → Numbered tune shrinking number
-  one_class_sized_number = number_of tune shrinking _ one_class_sized_so
+  pub one_class_sized_number : (number index : ℕ) → (fit_one_class_tuned_sized tune n m nu eps shrinking budget d).out ≡ Refused number index → Numbered tune.floor shrinking number
+  one_class_sized_number = number_of tune.floor shrinking _ one_class_sized_so
 
-  pub one_class_number_law : (number index : ℕ) → (fit_one_class_tuned tune n m nu eps shrinking budget d).out ≡ Refused number index → Numbered tune shrinking number
-  one_class_number_law = number_of tune shrinking _ one_class_entry_so
+  pub one_class_number_law : (number index : ℕ) → (fit_one_class_tuned tune n m nu eps shrinking budget d).out ≡ Refused number index → Numbered tune.floor shrinking number
+  one_class_number_law = number_of tune.floor shrinking _ one_class_entry_so
 
   pub one_class_accepts : get_or (words_of (fit_one_class_tuned tune n m nu eps shrinking budget d).out) 0 0 ≡ 0 → (x : Answer) × ((fit_one_class_tuned tune n m nu eps shrinking budget d).out ≡ Accepted x)
-  one_class_accepts = accepted_by (allowed tune shrinking) _ (none_listed tune.floor (may_lose tune.mode shrinking)) one_class_entry_so
+  one_class_accepts = accepted_by (allowed tune.floor shrinking) _ (none_listed tune.floor shrinking) one_class_entry_so

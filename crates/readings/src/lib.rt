@@ -1,10 +1,12 @@
 // The two readings of a trained run's weights.
+#![tactic(auto)]
+
 ghost use Rattle.std.specs.Prelude.{◌≡◌, ◌+◌, ◌*◌, ◌≤◌, ◌<◌, length, take};
 ghost use Rattle.readings.specs.Order.{NamesSamples, crate_reading, home_reading, weight_in};
 ghost use Rattle.readings.specs.Shown.{shown_of};
 
 // The crate's reading, or the home reading.
-#[derive(Drop)]
+#[derive(Clone, Copy)]
 pub enum Reading {
     Crate,
     Home,

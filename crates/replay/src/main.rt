@@ -1,4 +1,5 @@
 // Plays every record of the oracle's answers through its entry, and prints how many there are and how many differ.
+#![tactic(auto)]
 mod counted;
 
 ghost use Rattle.std.specs.Prelude.{◌≡◌, ◌≤◌, length};

@@ -1,4 +1,6 @@
 // The threshold rho, and with the nu rule its companion r.
+#![tactic(auto)]
+
 ghost use Rattle.std.specs.Prelude.{◌≡◌, ◌+◌, ◌*◌, ◌≤◌, ◌<◌, length};
 ghost use Rattle.rho.specs.Rho as Rho;
 ghost use Rattle.rho.specs.Rho.{signed, share_with_c, ub_moved, share_with_nu, joined_nu, share_c, share_nu, middle, rho_c, rho_nu, level_by};
@@ -6,7 +8,7 @@ ghost use Rattle.rho.specs.Rho.{signed, share_with_c, ub_moved, share_with_nu, j
 use alpha::Alpha;
 
 // What the positions so far say: how many are free and the sum of their gradients, and the two bounds.
-#[derive(Drop)]
+#[derive(Clone, Copy)]
 pub struct Share {
     pub free: usize,
     pub sum: f64,
@@ -14,7 +16,7 @@ pub struct Share {
     pub lb: f64,
 }
 
-#[derive(Drop)]
+#[derive(Clone, Copy)]
 pub struct Level {
     pub rho: f64,
     pub r: f64,

@@ -21,6 +21,7 @@ or_split false q t = inr t
 
 pub or_left : (p q : Bool) → T p → T (p || q)
 or_left true q t = t
+or_left false q t = elim t [ ]
 
 pub or_right : (p q : Bool) → T q → T (p || q)
 or_right true q t = tt

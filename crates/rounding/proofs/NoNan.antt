@@ -62,6 +62,7 @@ module _ (f : Format) where
   no_zero : (s : Bool) (n : ℕ) (d : ℤ) → T (lt nought (fin s n d)) → T (eqb n 0) → ⊥
   unfolding lt
   no_zero false n d h t = omega (arith, ltb→lt (0 * down d) (n * up d * 1) h, ap (λ (i : ℕ). i * up d * 1) (eqb→eq n 0 t))
+  no_zero true n d h t = elim h [ ]
 
   pub div_real : (x y : Float) → NotNan x → T (finite y) → T (lt nought y) → NotNan (div f x y)
   unfolding div is_nan
@@ -70,6 +71,10 @@ module _ (f : Format) where
   div_real (fin s m e) (fin t n d) p h k =
       rw (cond_no (eqb n 0) _ _ (not_T (eqb n 0) (no_zero t n d k)))
       (round_number f (unlike s t) (m * up e * down d) (n * up d * down e)).real
+  div_real (inf s) nan p h k = elim h [ ]
+  div_real (inf s) (inf _) p h k = elim h [ ]
+  div_real (fin s m e) nan p h k = elim h [ ]
+  div_real (fin s m e) (inf _) p h k = elim h [ ]
 
   -- ---- the step of a chosen pair: − x − y where the choice had x + y, and x − y where it had − x + y
 

@@ -61,6 +61,10 @@ module _ (f : Format) where
       let i = pow_pos (low f) in
       round_same f (unlike s t) (m * up e * (n * up d)) (down e * down d) (u * v) (l * l) (mul-pos (down_pos e) (down_pos d)) (mul-pos i i)
       (omega (arith, ap₂ (λ (a b : ℕ). a * b) (value f s m e p).cross (value f t n d q).cross))
+  mul_units nan y p q h k = elim h [ ]
+  mul_units (inf _) y p q h k = elim h [ ]
+  mul_units (fin s m e) nan p q h k = elim k [ ]
+  mul_units (fin s m e) (inf _) p q h k = elim k [ ]
 
   pub div_units : (x y : Float) → Number f x → Number f y → T (finite x) → T (finite y) → 0 < magnitude f y
       → div f x y ≡ round f (unlike (negative x) (negative y)) (magnitude f x) (magnitude f y)
@@ -76,6 +80,10 @@ module _ (f : Format) where
       ∙ round_same f (unlike s t) (m * up e * down d) (n * up d * down e) u v (mul-pos (mul-pos z (up_pos d)) (down_pos e)) some
       (eq_of_mul-eq-mul_right l (pow_pos (low f)) (m * up e * down d * v) (u * (n * up d * down e))
       (omega (arith, ap (λ (a : ℕ). a * (down d * v)) g, ap (λ (a : ℕ). a * (u * down e)) i)))
+  div_units nan y p q h k some = elim h [ ]
+  div_units (inf _) y p q h k some = elim h [ ]
+  div_units (fin s m e) nan p q h k some = elim k [ ]
+  div_units (fin s m e) (inf _) p q h k some = elim k [ ]
 
   -- ---- the sign goes through, for all floats
 

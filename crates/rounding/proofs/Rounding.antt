@@ -34,6 +34,8 @@ Signed s x = NotNan x × (negative x ≡ s)
 value_signed : (x : Float) (s : Bool) (a c : ℕ) → HasValue x s a c → Signed s x
 unfolding is_nan
 value_signed (fin t m e) s a c v = (tt, v.0)
+value_signed nan s a c v = elim v [ ]
+value_signed (inf _) s a c v = elim v [ ]
 
 units_signed : (f : Format) (s : Bool) (q k : ℕ) → Signed s (units f s q k)
 unfolding units
@@ -95,6 +97,8 @@ module _ (f : Format) where
         plus_is = ap₂ (λ (b : Bool) (n : ℕ). cond b 0 n) v.0 g;
         minus_is = ap₂ (λ (b : Bool) (n : ℕ). cond b n 0) v.0 g;
       }
+  value_parts nan s a c u p v k h = elim v [ ]
+  value_parts (inf _) s a c u p v k h = elim v [ ]
 
   -- ---- the order, and what m with j zeros behind it becomes
 

@@ -31,6 +31,9 @@ use Rattle.rounding.proofs.Compare.{Measured, compared, whole}
 
 last_three : (a b c d : Bool) → T (a && b && c && d) → T b × T c × T d
 last_three true true true d t = (tt, tt, t)
+last_three false b c d t = elim t [ ]
+last_three true false c d t = elim t [ ]
+last_three true true false d t = elim t [ ]
 
 record Held (f : Format) (m : ℕ) (e : ℤ) : Type 0 where
   digits : m < 2 ^ prec f
@@ -76,6 +79,8 @@ module _ (f : Format) where
   -- x is its magnitude over 2 ^ low, exactly
   pub exact_value : (x : Float) → Number f x → T (finite x) → HasValue x (negative x) (magnitude f x) (2 ^ low f)
   exact_value (fin s m e) p t = (refl, sym (value f s m e p).cross)
+  exact_value nan p t = elim t [ ]
+  exact_value (inf _) p t = elim t [ ]
 
   pub overflow_pos : 0 < overflow f
   overflow_pos = pow_pos (low f + suc (emax f))

@@ -1,1 +1,2 @@
 // Laws of floats: definitions and theorems only.
+#![tactic(auto)]

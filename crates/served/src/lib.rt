@@ -1,4 +1,5 @@
 // Each entry for a host that lends no scratch: after refusals 1 and 2, with working room of its own.
+#![tactic(auto)]
 ghost use Rattle.std.specs.Prelude.{◌≡◌, ◌*◌, ◌≤◌, length};
 ghost use Rattle.classification.specs.Entries.{general_tuned_sized, fit_cTuned_sized, fit_nu_tuned_sized, fit_one_class_tuned_sized};
 ghost use Rattle.hosted.specs.Hosted.{floats_of, room, Handed, handed, delivered};

@@ -1,4 +1,5 @@
 // Shrinking: which positions are to be dropped, and the walk that drops them.
+#![tactic(auto)]
 ghost use Rattle.std.specs.Prelude.{◌≡◌, ◌+◌, ◌*◌, ◌≤◌, ◌<◌, length};
 ghost use Rattle.state.specs.Lists.{State, state};
 ghost use Rattle.state.specs.Moving.{moved};
@@ -9,7 +10,7 @@ use alpha::Alpha;
 
 // What a gradient must exceed: at upper and at lower, positive and negative. At lower a negative one is asked for −G
 // where it is mirrored. And whether the walk ends at the current count.
-#[derive(Drop)]
+#[derive(Clone, Copy)]
 pub struct Limits {
     pub upos: f64,
     pub uneg: f64,
@@ -58,7 +59,7 @@ impl Limits {
 }
 
 // How far a walk has come: the active count, and whether it was to fall below 0.
-#[derive(Drop)]
+#[derive(Clone, Copy)]
 pub struct Walk {
     pub active: usize,
     pub refused: bool,

@@ -1,4 +1,5 @@
 // The run: passes of pair choice and update, with shrinking, until there is no pair or the budget is spent.
+#![tactic(auto)]
 ghost use Rattle.std.specs.Prelude.{cond, ◌≡◌, ◌+◌, ◌-◌, ◌*◌, ◌≤◌, ◌<◌, length};
 ghost use Rattle.modes.specs.Modes.{repaired};
 ghost use Rattle.state.specs.Lists.{problem, state, Ready};
@@ -13,7 +14,7 @@ use modes::Mode;
 use shrink::{Limits, Walk};
 
 // What doesn't change in a run, besides the lent lists.
-#[derive(Drop)]
+#[derive(Clone, Copy)]
 pub struct Given {
     pub n: usize,
     pub side: usize,
@@ -25,14 +26,14 @@ pub struct Given {
     pub nu: bool,
 }
 
-#[derive(Drop)]
+#[derive(Clone, Copy)]
 pub enum Status {
     Going,
     Done,
     Refused,
 }
 
-#[derive(Drop)]
+#[derive(Clone, Copy)]
 pub struct Run {
     pub active: usize,
     pub counter: usize,
@@ -42,7 +43,7 @@ pub struct Run {
 }
 
 // What shrinking asks of the extremes.
-#[derive(Drop)]
+#[derive(Clone, Copy)]
 pub struct Tops {
     pub limits: Limits,
     pub level: f64,

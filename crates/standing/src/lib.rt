@@ -1,1 +1,2 @@
 // The run over the samples that stand: definitions and theorems, no code.
+#![tactic(auto)]

@@ -1,1 +1,2 @@
 // What the entries answer without an order table: definitions and theorems, no code.
+#![tactic(auto)]

@@ -1,4 +1,5 @@
 // The C entry without an order table: refusals 1 to 5, 8, 10, 14 and 13 first, then the fit. Under a tuning.
+#![tactic(auto)]
 ghost use Rattle.std.specs.Prelude.{◌≡◌, false, ◌≤◌, length};
 ghost use Rattle.classification.specs.Entries.{given_by};
 ghost use Rattle.judge.specs.Judge.{c_judged};

@@ -1,4 +1,5 @@
 // What a caller may set beside a problem: the floor of the curvature, and the mode of the run.
+#![tactic(auto)]
 ghost use Rattle.std.specs.Prelude.{◌≡◌};
 ghost use Rattle.tuning.specs.Tuning.{plain_tuning};
 
@@ -6,7 +7,7 @@ use alpha::Alpha;
 use modes::Mode;
 
 // The floor is what stands for a curvature that isn't above 0.
-#[derive(Drop)]
+#[derive(Clone, Copy)]
 pub struct Tuning {
     pub floor: f64,
     pub mode: Mode,

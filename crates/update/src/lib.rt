@@ -1,4 +1,5 @@
 // One step: the clipped pair, and carrying it into the gradients.
+#![tactic(auto)]
 ghost use Rattle.std.specs.Prelude.{◌≡◌, ◌+◌, ◌*◌, ◌≤◌, ◌<◌, length, get_or};
 ghost use Rattle.std.specs.Float.{nan};
 ghost use Rattle.alpha.specs.Weight.{weight};
@@ -12,7 +13,7 @@ use alpha::Alpha;
 use kernel::Kind;
 use modes::Mode;
 
-#[derive(Drop)]
+#[derive(Clone, Copy)]
 pub struct Pair {
     pub i: Alpha,
     pub j: Alpha,

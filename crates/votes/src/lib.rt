@@ -1,4 +1,5 @@
 // Several languages from pairs of trainings: each pair votes for one of its two, and the most votes win.
+#![tactic(auto)]
 ghost use Rattle.std.specs.Prelude.{cond, ◌≡◌, ℕ, ◌+◌, ◌*◌, ◌≤◌, ◌<◌, min, ltb, length, get_or};
 ghost use Rattle.judge.specs.Judge.{first};
 ghost use Rattle.votes.specs.Votes.{pairs_of, sides_after, panel, pair_start, pair_sum_to, chosen_by, votes_for, winner_to};
@@ -7,14 +8,14 @@ ghost use Rattle.votes.specs.Entry.{languages_good, counts_good, votes_judged, S
 use judge::Judged;
 
 // The two languages of a pair, counted from 0.
-#[derive(Drop)]
+#[derive(Clone, Copy)]
 pub struct Sides {
     pub first: usize,
     pub second: usize,
 }
 
 // A refusal's number and index, or 0 and 0 and the winner's number, from 1 on.
-#[derive(Drop)]
+#[derive(Clone, Copy)]
 pub struct Election {
     pub number: u64,
     pub index: usize,

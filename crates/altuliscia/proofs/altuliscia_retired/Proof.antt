@@ -26,11 +26,11 @@ retired-requires c κs =
 
 returns : tie.Need-returns
 unfolding retired_host hosted_by
-returns c = rw (← c.before.before.before.before.before.before.before.before.before.before.before.before.before.before.before.before.before.are-floats.ensures, ← c.before.before.before.before.before.before.before.before.before.before.before.before.before.before.before.before.are-floats2.ensures, ← c.before.before.before.before.before.before.before.before.before.before.before.before.before.before.before.are-floats3.ensures, ← c.before.before.before.before.before.before.before.before.before.before.before.before.before.before.is-tuning.ensures, ← c.before.before.before.before.before.before.before.before.before.before.before.before.before.sized.ensures, eq-eqb _ _ c.before.before.before.before.before.before.before.before.before.before.before.before.if1.true, ← c.before.before.before.before.before.before.before.before.before.before.before.tuning-of.ensures, ← c.before.before.before.before.before.before.before.before.before.before.float_of.ensures) c.before.before.before.before.before.before.retired.ensures
+returns c = rw (← c.before.before.before.before.before.before.before.before.before.before.before.before.before.before.before.before.before.are-floats.ensures, ← c.before.before.before.before.before.before.before.before.before.before.before.before.before.before.before.before.are-floats2.ensures, ← c.before.before.before.before.before.before.before.before.before.before.before.before.before.before.before.are-floats3.ensures, ← c.before.before.before.before.before.before.before.before.before.before.before.before.before.before.is-floor.ensures, ← c.before.before.before.before.before.before.before.before.before.before.before.before.before.sized.ensures, eq-eqb _ _ c.before.before.before.before.before.before.before.before.before.before.before.before.if1.true, ← c.before.before.before.before.before.before.before.before.before.before.before.tuning-of.ensures, ← c.before.before.before.before.before.before.before.before.before.before.float_of.ensures) c.before.before.before.before.before.before.retired.ensures
 
 returns-2 : tie.Need-returns-2
 unfolding retired_host hosted_by
-returns-2 c = rw (← c.before.before.before.before.before.before.before.before.before.are-floats.ensures, ← c.before.before.before.before.before.before.before.before.are-floats2.ensures, ← c.before.before.before.before.before.before.before.are-floats3.ensures, ← c.before.before.before.before.before.before.is-tuning.ensures, ← c.before.before.before.before.before.sized.ensures, ne_eqb _ _ c.before.before.before.before.if1.false, c.before.before.turn-away.ensures)
+returns-2 c = rw (← c.before.before.before.before.before.before.before.before.before.are-floats.ensures, ← c.before.before.before.before.before.before.before.before.are-floats2.ensures, ← c.before.before.before.before.before.before.before.are-floats3.ensures, ← c.before.before.before.before.before.before.is-floor.ensures, ← c.before.before.before.before.before.sized.ensures, ne_eqb _ _ c.before.before.before.before.if1.false, c.before.before.turn-away.ensures)
 
 pub altuliscia_retired_spec : {M : Type 1} → statement M
 altuliscia_retired_spec =

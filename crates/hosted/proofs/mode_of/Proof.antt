@@ -10,11 +10,7 @@ returns c = rw (sym c.before.word_on.ensures ∙ c.if1.true)
 
 returns-2 : tie.Need-returns-2
 unfolding mode_of
-returns-2 c = rw (sym c.before.before.before.word_on.ensures ∙ c.before.before.if1.false, sym c.before.word-on2.ensures ∙ c.if2.true)
-
-returns-3 : tie.Need-returns-3
-unfolding mode_of
-returns-3 c = rw (sym c.before.before.before.word_on.ensures ∙ c.before.before.if1.false, sym c.before.word-on2.ensures ∙ c.if2.false)
+returns-2 c = rw (sym c.before.word_on.ensures ∙ c.if1.false)
 
 pub mode_of_spec : {M : Type 1} → statement M
-mode_of_spec = tie.close (tie.spec (λ c κs. search rules) returns (λ c κs. search rules) returns-2 returns-3)
+mode_of_spec = tie.close (tie.spec (λ c κs. search rules) returns returns-2)

@@ -11,9 +11,5 @@ returns-2 : tie.Need-returns-2
 unfolding travels
 returns-2 c = rw c.enum-told2.given.1
 
-returns-3 : tie.Need-returns-3
-unfolding travels
-returns-3 c = rw c.enum-told3.given.1
-
 pub travels_spec : {M : Type 1} → statement M
-travels_spec = tie.close (tie.spec (λ c. search rules) (λ c. search rules) (λ c. search rules) returns returns-2 returns-3)
+travels_spec = tie.close (tie.spec (λ c. search rules) (λ c. search rules) returns returns-2)
