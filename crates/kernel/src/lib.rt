@@ -1,5 +1,6 @@
 // The lent kernel matrix. A reader answers each entry; what other crates call takes plain slices.
 #![tactic(auto)]
+
 ghost use Rattle.std.specs.Prelude.{Bool, cond, ◌≡◌, ◌≤◌, ◌<◌, length};
 ghost use Rattle.std.specs.Float.{binary64};
 ghost use Rattle.std.specs.Float.Ieee.{neg, mul};

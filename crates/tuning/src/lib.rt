@@ -1,5 +1,6 @@
 // What a caller may set beside a problem: the floor of the curvature, and the mode of the run.
 #![tactic(auto)]
+
 ghost use Rattle.std.specs.Prelude.{◌≡◌};
 ghost use Rattle.tuning.specs.Tuning.{plain_tuning};
 

@@ -1,0 +1,6 @@
+use mathlib.Core.Path.{refl}
+use borrow.Author.Rules.{rules}
+use Rattle.kernel.proofs.index_at.Goals as goal
+
+pub returns : goal.returns
+returns c = (refl, c.requires.0.below c.args.k c.requires.1)

@@ -1,0 +1,6 @@
+use borrow.Author.Rules.{rules}
+use Rattle.kernel.proofs.reach.Goals as goal
+
+pub returns : goal.returns
+returns c =
+    rw (← c.index_at-r.ensures.0, ← c.entry.ensures, ← c.alike.ensures) c.signed.ensures

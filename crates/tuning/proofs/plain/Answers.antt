@@ -1,0 +1,5 @@
+use borrow.Author.Rules.{rules}
+use Rattle.tuning.proofs.plain.Goals as goal
+
+pub returns : goal.returns
+returns c = rw c.curvature_floor.ensures
