@@ -1,5 +1,6 @@
 // A running extreme: the best value so far, and who holds it. Each function weighs one more candidate.
 #![tactic(auto)]
+
 ghost use Rattle.std.specs.Prelude.{cond, ◌≡◌};
 ghost use Rattle.extreme.specs.Best.{weighed, at_least, above, at_most};
 ghost use Rattle.extreme.specs.Racing.{below, racing, raced};

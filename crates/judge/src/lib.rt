@@ -1,5 +1,6 @@
 // Refusals 1 and 2, 4 to 10 and 12 to 14, each by itself: what is lent and given is judged before anything is written.
 #![tactic(auto)]
+
 ghost use Rattle.std.specs.Prelude.{not, ◌≡◌, ℕ, ◌*◌, ◌≤◌, length};
 ghost use Rattle.judge.specs.Sizes.{room_good, sizes};
 ghost use Rattle.judge.specs.Judge.{first, need, and_then, is_bad, is_ceiling, label_good, ceiling_good, cost_good, alpha_good, linear_good, eps_good, nu_good, budget_good, floor_judged, bytes_good};

@@ -1,6 +1,7 @@
 // The second of the pair, and the choice, for both rules.
 // The parameters f, u, y are the lent lists, and n, side, kind, m what a run is given: state/specs/Lists.antt.
 #![tactic(auto)]
+
 ghost use Rattle.std.specs.Prelude.{cond, ◌≡◌, ◌+◌, ◌*◌, ◌≤◌, ◌<◌, eqb, length, get_or};
 ghost use Rattle.extreme.specs.Best.{Below, nobody as nobodyAt};
 ghost use Rattle.kernel.specs.Row.{Indexed};

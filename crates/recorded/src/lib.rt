@@ -1,4 +1,5 @@
 // The oracle's records: where each thing stands in one, and whether what a call left agrees with it.
 #![tactic(auto)]
+
 pub mod agree;
 pub mod layout;

@@ -1,5 +1,6 @@
 // A multiple of a row, added to part of a field.
 #![tactic(auto)]
+
 ghost use Rattle.std.specs.Prelude.{◌≡◌, ◌+◌, ◌*◌, ◌≤◌, ◌<◌, length};
 ghost use Rattle.state.specs.Lists.{problem, state, Ready};
 ghost use Rattle.rows.specs.Added.{row_added};

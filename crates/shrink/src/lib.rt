@@ -1,5 +1,6 @@
 // Shrinking: which positions are to be dropped, and the walk that drops them.
 #![tactic(auto)]
+
 ghost use Rattle.std.specs.Prelude.{◌≡◌, ◌+◌, ◌*◌, ◌≤◌, ◌<◌, length};
 ghost use Rattle.state.specs.Lists.{State, state};
 ghost use Rattle.state.specs.Moving.{moved};

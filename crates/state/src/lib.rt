@@ -1,5 +1,6 @@
 // The three lent lists: what stands at a position, and moving.
 #![tactic(auto)]
+
 ghost use Rattle.std.specs.Prelude.{◌≡◌, ◌+◌, ◌*◌, ◌≤◌, ◌<◌, length};
 ghost use Rattle.std.specs.Float.{nan};
 ghost use Rattle.state.specs.Fields.{alpha_in};

@@ -1,5 +1,6 @@
 // Refusal 3, the scan of the matrix, and each entry's verdict: the first number that applies.
 #![tactic(auto)]
+
 ghost use Rattle.std.specs.Prelude.{true, ◌≡◌, ℕ, ◌+◌, ◌*◌, ◌≤◌, ◌<◌, length};
 ghost use Rattle.wire.specs.Wire.{digits};
 ghost use Rattle.judge.specs.Judge.{first, in_limit, entry_good, general_judged, retired_judged, c_judged, nu_judged, one_class_judged};

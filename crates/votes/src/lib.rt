@@ -1,5 +1,6 @@
 // Several languages from pairs of trainings: each pair votes for one of its two, and the most votes win.
 #![tactic(auto)]
+
 ghost use Rattle.std.specs.Prelude.{cond, ◌≡◌, ℕ, ◌+◌, ◌*◌, ◌≤◌, ◌<◌, min, ltb, length, get_or};
 ghost use Rattle.judge.specs.Judge.{first};
 ghost use Rattle.votes.specs.Votes.{pairs_of, sides_after, panel, pair_start, pair_sum_to, chosen_by, votes_for, winner_to};

@@ -1,0 +1,14 @@
+use Prim.Native.Nat.{◌≤◌, ◌-◌}
+use mathlib.Core.Path.{◌≡◌, sym, ◌∙◌}
+use native.Mathlib.Nat.{sub-zero}
+use native.Mathlib.Omega.{arith}
+use Rattle.judge.specs.Judge.{first, alpha_good}
+use Rattle.judge.proofs.First.{kept, turn, on, stop, done}
+use borrow.Author.Rules.{rules}
+use Rattle.judge.proofs.alphas_judged.Given as goal
+
+abbrev pub invariant-loop-i : goal.invariant-loop-i
+invariant-loop-i l = (l.i ≤ l.n) × (first 6 (alpha_good l.a l.c) l.n 0 ≡ first 6 (alpha_good l.a l.c) (l.n - l.i) l.i)
+
+abbrev pub decreases-loop-i : goal.decreases-loop-i
+decreases-loop-i l = l.n - l.i

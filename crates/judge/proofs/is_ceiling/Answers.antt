@@ -1,0 +1,5 @@
+use borrow.Author.Rules.{rules}
+use Rattle.judge.proofs.is_ceiling.Goals as goal
+
+pub returns : goal.returns
+returns c = rw c.kernel_limit.ensures

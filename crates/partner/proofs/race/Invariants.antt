@@ -1,0 +1,13 @@
+use Prim.Native.Nat.{◌≤◌, ◌-◌}
+use mathlib.Core.Path.{◌≡◌, refl, ap}
+use native.Mathlib.Numerals.{add-one}
+use native.Mathlib.Omega.{arith}
+use lib.Ieee.{of_bits, div}
+use Rattle.extreme.specs.declared.Race.{Race}
+use Rattle.state.specs.Lists.{problem, state}
+use Rattle.partner.specs.Lead.{raced_to}
+use borrow.Author.Rules.{rules}
+use Rattle.partner.proofs.race.Given as goal
+
+abbrev pub invariant-loop-j : goal.invariant-loop-j
+invariant-loop-j l = (l.j ≤ l.active) × (l.e ≡ raced_to (problem l.n l.side l.kind l.m) (state l.f l.u l.y) l.floor l.active l.lp l.lq l.j)

@@ -1,0 +1,18 @@
+use Prim.Native.Nat.{◌≤◌, ◌-◌}
+use mathlib.Core.Path.{◌≡◌, refl}
+use native.Mathlib.Numerals.{add-one}
+use native.Mathlib.Omega.{arith}
+use Rattle.recorded.specs.Agree.{same_below, loose_in, loose_from}
+use borrow.Author.Rules.{rules}
+use Rattle.recorded.proofs.agree.answer_told.Goals as goal
+
+pub loop-k-init : goal.loop-k-init
+unfolding same_below
+loop-k-init c = (search rules, refl)
+
+pub loop-k-preserved : goal.loop-k-preserved
+unfolding same_below
+loop-k-preserved c = (search rules, rw (add-one, ← c.loop-k.invariant.1, ← c.loose-x.ensures, ← c.word.ensures, ← c.loose-y.ensures))
+
+pub returns : goal.returns
+returns c = let e : c.loop-k.k ≡ 9 = omega arith in rw e at c.loop-k.invariant.1

@@ -1,0 +1,11 @@
+use Prim.Native.Nat.{◌≤◌, ◌-◌}
+use mathlib.Core.Path.{◌≡◌, refl}
+use native.Mathlib.Numerals.{add-one}
+use native.Mathlib.Omega.{arith}
+use lib.ListN.{length}
+use Rattle.recorded.specs.Agree.{marks_to, byte_mark_of}
+use borrow.Author.Rules.{rules}
+use Rattle.recorded.proofs.agree.mark_bytes.Given as goal
+
+abbrev pub invariant-loop-k : goal.invariant-loop-k
+invariant-loop-k l = (l.k ≤ l.n) × (length l.y ≡ length l.initial.y) × (l.y ≡ marks_to byte_mark_of l.initial.y l.k)

@@ -1,0 +1,11 @@
+use Prim.Native.Nat.{◌≤◌, ◌-◌}
+use mathlib.Core.Path.{◌≡◌, refl}
+use native.Mathlib.Numerals.{add-one}
+use native.Mathlib.Omega.{arith}
+use lib.ListN.{length}
+use Rattle.recorded.specs.Agree.{same_below, number_in, left_of, mark_of}
+use borrow.Author.Rules.{rules}
+use Rattle.recorded.proofs.agree.numbers_left.Given as goal
+
+abbrev pub invariant-loop-k : goal.invariant-loop-k
+invariant-loop-k l = (l.k ≤ l.n) × (l.same ≡ same_below (number_in l.u) (left_of mark_of l.used) l.k)

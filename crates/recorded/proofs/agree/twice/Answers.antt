@@ -1,0 +1,18 @@
+use Prim.Native.Nat.{◌+◌, ◌≤◌, ◌-◌}
+use mathlib.Core.Path.{◌≡◌, refl}
+use native.Mathlib.Numerals.{add-one}
+use native.Mathlib.Omega.{arith}
+use Rattle.recorded.specs.Agree.{same_below, word_from}
+use borrow.Author.Rules.{rules}
+use Rattle.recorded.proofs.agree.twice.Goals as goal
+
+pub loop-k-init : goal.loop-k-init
+unfolding same_below
+loop-k-init c = (search rules, refl)
+
+pub loop-k-preserved : goal.loop-k-preserved
+unfolding same_below
+loop-k-preserved c = (search rules, rw (add-one, ← c.loop-k.invariant.1, ← c.word-x.ensures, ← c.word-y.ensures))
+
+pub returns : goal.returns
+returns c = let e : c.loop-k.k ≡ c.args.n = omega arith in rw e at c.loop-k.invariant.1

@@ -1,0 +1,19 @@
+use Prim.Native.Nat.{◌≤◌, ◌-◌}
+use mathlib.Core.Path.{◌≡◌, refl}
+use native.Mathlib.Numerals.{add-one}
+use native.Mathlib.Omega.{arith}
+use lib.ListN.{length}
+use Rattle.recorded.specs.Record.{floats_to}
+use borrow.Author.Rules.{rules}
+use Rattle.recorded.proofs.layout.load.Goals as goal
+
+pub loop-k-init : goal.loop-k-init
+unfolding floats_to
+loop-k-init c = (search rules, refl, refl)
+
+pub loop-k-preserved : goal.loop-k-preserved
+unfolding floats_to
+loop-k-preserved c = (search rules, search rules, rw (add-one, ← c.loop-k.invariant.2, ← c.float.ensures))
+
+pub returns : goal.returns
+returns c = let e : c.loop-k.k ≡ c.args.n = omega arith in rw e at c.loop-k.invariant.2

@@ -1,0 +1,5 @@
+use borrow.Author.Rules.{rules}
+use Rattle.rho.proofs.ub_lowered.Goals as goal
+
+pub returns : goal.returns
+returns c = rw c.min.ensures

@@ -1,0 +1,26 @@
+use Prim.Native.Nat.{◌≤◌}
+use mathlib.Core.Path.{◌≡◌, refl, sym, ◌∙◌}
+use native.Mathlib.Omega.{arith}
+use borrow.Author.Tests.{not-true, not-false}
+use Rattle.state.specs.Lists.{state}
+use Rattle.shrink.specs.Walk.{count_fallen}
+use Rattle.shrink.specs.Drops.{drops_at}
+use Rattle.shrink.proofs.Laws.{fallen_kept, fallen_dropped, fallen_end}
+use borrow.Author.Rules.{rules}
+use Rattle.shrink.proofs.fall.Goals as goal
+
+pub loop-a-init : goal.loop-a-init
+loop-a-init c = (omega arith, refl)
+
+pub returns-then-not-drops : goal.returns-then-not-drops
+returns-then-not-drops c =
+    let d = sym c.drops.ensures ∙ not-true _ c.if-not-drops.true in
+    (fallen_kept _ _ _ _ c.loop-a-test.true d ∙ sym c.loop-a.invariant.1, omega arith)
+
+pub loop-a-preserved : goal.loop-a-preserved
+loop-a-preserved c =
+    let d = sym c.drops.ensures ∙ not-false _ c.if-not-drops.false in
+    (omega arith, c.loop-a.invariant.1 ∙ fallen_dropped _ _ _ _ c.loop-a-test.true d)
+
+pub returns : goal.returns
+returns c = (fallen_end _ _ _ _ c.loop-a-test.false ∙ sym c.loop-a.invariant.1, omega arith)

@@ -1,0 +1,13 @@
+use Prim.Native.Nat.{◌≤◌, ◌-◌}
+use mathlib.Core.Path.{◌≡◌, refl}
+use native.Mathlib.Numerals.{add-one}
+use native.Mathlib.Omega.{arith}
+use lib.ListN.{length}
+use lib.Ieee.{nan}
+use Rattle.state.specs.Moving.{swapped_fields}
+use Rattle.state.proofs.Within.{within}
+use borrow.Author.Rules.{rules}
+use Rattle.state.proofs.swap_float_fields.Given as goal
+
+abbrev pub invariant-loop-f : goal.invariant-loop-f
+invariant-loop-f l = (l.f ≤ l.count) × (length l.xs ≡ length l.initial.xs) × (l.xs ≡ swapped_fields nan l.n l.initial.xs l.i l.j l.f)
