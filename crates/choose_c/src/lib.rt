@@ -1,6 +1,7 @@
 // The pair choice of the C rule.
 // The parameters f, u, y are the lent lists, and n, side, kind, m what a run is given: state/specs/Lists.antt.
 #![tactic(auto)]
+
 ghost use Rattle.std.specs.Prelude.{◌≡◌, ◌≤◌};
 ghost use Rattle.state.specs.Lists.{problem, state, Ready};
 ghost use Rattle.choose_c.specs.Choice.{extremes_c, weighed_c, choice_c};

@@ -14,12 +14,12 @@ loop-a-init c = (omega arith, refl)
 
 pub returns-then-not-drops : goal.returns-then-not-drops
 returns-then-not-drops c =
-    let d = sym c.drops.ensures ∙ not-true _ c.if-not-drops.true in
+    let d = sym c.drops.ensures ∙ c.if-not-drops.true in
     (fallen_kept _ _ _ _ c.loop-a-test.true d ∙ sym c.loop-a.invariant.1, omega arith)
 
 pub loop-a-preserved : goal.loop-a-preserved
 loop-a-preserved c =
-    let d = sym c.drops.ensures ∙ not-false _ c.if-not-drops.false in
+    let d = sym c.drops.ensures ∙ c.if-not-drops.false in
     (omega arith, c.loop-a.invariant.1 ∙ fallen_dropped _ _ _ _ c.loop-a-test.true d)
 
 pub returns : goal.returns

@@ -22,9 +22,9 @@ loop-i-preserved c =
       omega arith,
       omega (arith, v.ensures.1),
       rw (add-one, ← l.2) v.ensures.0,
-      v.auto.0 ∙ l.3,
-      v.auto.1.0 ∙ l.4,
-      v.auto.1.1.0 ∙ l.5,
+      v.auto.f ∙ l.3,
+      v.auto.u ∙ l.4,
+      v.auto.y ∙ l.5,
     )
 
 pub returns : goal.returns

@@ -12,7 +12,7 @@ loop-i-init c = (search rules, refl)
 
 pub loop-i-preserved : goal.loop-i-preserved
 unfolding pair_sum_to
-loop-i-preserved c = (search rules, rw (add-one, ← c.loop-i.invariant.1, ← c.float_at-in-loop-i.ensures, ← c.Float-at.ensures))
+loop-i-preserved c = (search rules, rw (add-one, ← c.loop-i.invariant.1, ← c.float_at-in-loop-i.ensures, ← c.float_at.ensures))
 
 pub returns : goal.returns
 returns c =

@@ -34,35 +34,35 @@ pub offset_bounds-t-x : goal.offset_bounds-t-x
 offset_bounds-t-x c =
     let l = panel c.args.c.now c.args.v.now c.args.held.now c.args.valued.now c.args.rhos.now in
     let v = c.loop-p.invariant in
-    let w = vote_made c.args.k l c.pairs_of-n.result c.loop-p.p c.requires v.1 c.loop-p-test.true v.3 v.4 c.word_at-count.ensures c.pair_sum-sum.ensures c.Float-at.ensures c.side_chosen-x.ensures in
+    let w = vote_made c.args.k l c.pairs_of-n.result c.loop-p.p c.requires v.1 c.loop-p-test.true v.3 v.4 c.word_at-count.ensures c.pair_sum-sum.ensures c.float_at.ensures c.side_chosen-x.ensures in
     record { fits = omega (arith, w.1) }
 
 pub offset_bounds-t-x-in-loop-p : goal.offset_bounds-t-x-in-loop-p
 offset_bounds-t-x-in-loop-p c =
     let l = panel c.args.c.now c.args.v.now c.args.held.now c.args.valued.now c.args.rhos.now in
     let v = c.loop-p.invariant in
-    let w = vote_made c.args.k l c.pairs_of-n.result c.loop-p.p c.requires v.1 c.loop-p-test.true v.3 v.4 c.word_at-count.ensures c.pair_sum-sum.ensures c.Float-at.ensures c.side_chosen-x.ensures in
+    let w = vote_made c.args.k l c.pairs_of-n.result c.loop-p.p c.requires v.1 c.loop-p-test.true v.3 v.4 c.word_at-count.ensures c.pair_sum-sum.ensures c.float_at.ensures c.side_chosen-x.ensures in
     record { fits = omega (arith, w.1) }
 
 pub bounds-t-x : goal.bounds-t-x
 bounds-t-x c =
     let l = panel c.args.c.now c.args.v.now c.args.held.now c.args.valued.now c.args.rhos.now in
     let v = c.loop-p.invariant in
-    let w = vote_made c.args.k l c.pairs_of-n.result c.loop-p.p c.requires v.1 c.loop-p-test.true v.3 v.4 c.word_at-count.ensures c.pair_sum-sum.ensures c.Float-at.ensures c.side_chosen-x.ensures in
+    let w = vote_made c.args.k l c.pairs_of-n.result c.loop-p.p c.requires v.1 c.loop-p-test.true v.3 v.4 c.word_at-count.ensures c.pair_sum-sum.ensures c.float_at.ensures c.side_chosen-x.ensures in
     w.1
 
 pub bounds-t-x-in-loop-p : goal.bounds-t-x-in-loop-p
 bounds-t-x-in-loop-p c =
     let l = panel c.args.c.now c.args.v.now c.args.held.now c.args.valued.now c.args.rhos.now in
     let v = c.loop-p.invariant in
-    let w = vote_made c.args.k l c.pairs_of-n.result c.loop-p.p c.requires v.1 c.loop-p-test.true v.3 v.4 c.word_at-count.ensures c.pair_sum-sum.ensures c.Float-at.ensures c.side_chosen-x.ensures in
+    let w = vote_made c.args.k l c.pairs_of-n.result c.loop-p.p c.requires v.1 c.loop-p-test.true v.3 v.4 c.word_at-count.ensures c.pair_sum-sum.ensures c.float_at.ensures c.side_chosen-x.ensures in
     w.1
 
 pub overflow_add-t : goal.overflow_add-t
 overflow_add-t c =
     let l = panel c.args.c.now c.args.v.now c.args.held.now c.args.valued.now c.args.rhos.now in
     let v = c.loop-p.invariant in
-    let w = vote_made c.args.k l c.pairs_of-n.result c.loop-p.p c.requires v.1 c.loop-p-test.true v.3 v.4 c.word_at-count.ensures c.pair_sum-sum.ensures c.Float-at.ensures c.side_chosen-x.ensures in
+    let w = vote_made c.args.k l c.pairs_of-n.result c.loop-p.p c.requires v.1 c.loop-p-test.true v.3 v.4 c.word_at-count.ensures c.pair_sum-sum.ensures c.float_at.ensures c.side_chosen-x.ensures in
     let x = c.side_chosen-x.result in
     record { fits = omega (arith, v.5 x w.1, votes_at_most c.args.k l c.loop-p.p x, pairs_few c.args.k c.requires.most, v.0, v.1) }
 
@@ -83,7 +83,7 @@ unfolding sides_of pair_start
 loop-p-preserved c =
     let l = panel c.args.c.now c.args.v.now c.args.held.now c.args.valued.now c.args.rhos.now in
     let v = c.loop-p.invariant in
-    let w = vote_made c.args.k l c.pairs_of-n.result c.loop-p.p c.requires v.1 c.loop-p-test.true v.3 v.4 c.word_at-count.ensures c.pair_sum-sum.ensures c.Float-at.ensures c.side_chosen-x.ensures in
+    let w = vote_made c.args.k l c.pairs_of-n.result c.loop-p.p c.requires v.1 c.loop-p-test.true v.3 v.4 c.word_at-count.ensures c.pair_sum-sum.ensures c.float_at.ensures c.side_chosen-x.ensures in
     let h : vote_of c.args.k l c.loop-p.p < 12 = rw w.0 at w.1 in
     (search rules, v.1, simp length-set v.2, rw (add-one, ← v.3) c.sides_after-s.ensures, rw (add-one, ← v.4, ← c.word_at-count.ensures), rw (add-one c.loop-p.p, w.0) (vote_counted c.args.k l c.loop-p.p c.loop-p.t v.2 h v.5))
 

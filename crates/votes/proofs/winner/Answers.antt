@@ -16,7 +16,7 @@ loop-x-init c = (search rules, search rules, refl)
 pub loop-x-preserved : goal.loop-x-preserved
 unfolding winner_to
 loop-x-preserved c =
-    let t = c.args.t1 in
+    let t = c.args.t in
     let w = c.loop-x.w in
     let x = c.loop-x.x in
     (search rules, either_below (ltb (get_or t w 0) (get_or t x 0)) x w _ c.better-w.ensures (omega arith) (omega arith), rw (add-one, ← c.loop-x.invariant.2) c.better-w.ensures)

@@ -1,0 +1,21 @@
+use Prim.Native.Nat.{◌≤◌, ◌-◌}
+use mathlib.Core.Bool.{true, false}
+use mathlib.Core.Path.{◌≡◌, sym, ◌∙◌}
+use native.Mathlib.Numerals.{add-one}
+use lib.Ieee.{nan}
+use lib.ListN.{get_or}
+use Rattle.extreme.specs.Best.{best}
+use Rattle.kernel.specs.declared.Kind.TheVariants.{TwoClass}
+use Rattle.state.specs.Fields.{alpha_in, positive}
+use Rattle.state.specs.Lists.{problem, state}
+use Rattle.choose_nu.specs.Choice.{risen, fallen, extremes_nu}
+use Rattle.choose_nu.proofs.Calm.{calm}
+use borrow.Author.Rules.{rules}
+use Rattle.choose_nu.proofs.calm_to.Given as goal
+
+-- no extreme asks for the kind
+abbrev pub invariant-loop-k : goal.invariant-loop-k
+invariant-loop-k l = (l.from ≤ l.k) × (l.k ≤ l.active) × (l.es ≡ extremes_nu (problem l.n l.side TwoClass l.m) (state l.f l.u l.y) l.k)
+
+abbrev pub decreases-loop-k : goal.decreases-loop-k
+decreases-loop-k l = l.active - l.k
