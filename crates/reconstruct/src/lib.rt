@@ -1,5 +1,6 @@
 // The gradients of inactive positions, computed anew.
 #![tactic(auto)]
+
 ghost use Rattle.std.specs.Prelude.{◌≡◌, ◌+◌, ◌-◌, ◌*◌, ◌≤◌, ◌<◌, length};
 ghost use Rattle.state.specs.Lists.{problem, state, Ready};
 ghost use Rattle.reconstruct.specs.Reconstruct.{fresh_to, counted, free_to, brought, gets, weighted_to, outer_at, outer_to, inner_at, inner_to, branched, reconstructed};

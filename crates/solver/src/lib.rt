@@ -1,5 +1,6 @@
 // The run: passes of pair choice and update, with shrinking, until there is no pair or the budget is spent.
 #![tactic(auto)]
+
 ghost use Rattle.std.specs.Prelude.{cond, ◌≡◌, ◌+◌, ◌-◌, ◌*◌, ◌≤◌, ◌<◌, length};
 ghost use Rattle.modes.specs.Modes.{repaired};
 ghost use Rattle.state.specs.Lists.{problem, state, Ready};

@@ -1,5 +1,6 @@
 // The gradients before the first pass.
 #![tactic(auto)]
+
 ghost use Rattle.std.specs.Prelude.{◌≡◌, ◌+◌, ◌*◌, ◌≤◌, ◌<◌, length};
 ghost use Rattle.kernel.specs.Matrix.{Matrix};
 ghost use Rattle.state.specs.Lists.{problem, state, Ready};

@@ -1,5 +1,6 @@
 // One step: the clipped pair, and carrying it into the gradients.
 #![tactic(auto)]
+
 ghost use Rattle.std.specs.Prelude.{◌≡◌, ◌+◌, ◌*◌, ◌≤◌, ◌<◌, length, get_or};
 ghost use Rattle.std.specs.Float.{nan};
 ghost use Rattle.alpha.specs.Weight.{weight};

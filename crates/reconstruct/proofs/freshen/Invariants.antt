@@ -1,0 +1,11 @@
+use Prim.Native.Nat.{◌≤◌, ◌-◌}
+use mathlib.Core.Path.{◌≡◌, refl}
+use native.Mathlib.Numerals.{add-one}
+use native.Mathlib.Omega.{arith}
+use lib.ListN.{length}
+use Rattle.reconstruct.specs.Reconstruct.{fresh_to}
+use borrow.Author.Rules.{rules}
+use Rattle.reconstruct.proofs.freshen.Given as goal
+
+abbrev pub invariant-loop-k : goal.invariant-loop-k
+invariant-loop-k l = (l.k ≤ l.count) × (length l.f ≡ length l.initial.f) × (l.f ≡ fresh_to l.n l.a l.initial.f l.k)

@@ -1,0 +1,10 @@
+use Prim.Native.Nat.{◌≤◌, ◌-◌}
+use mathlib.Core.Path.{◌≡◌, refl}
+use native.Mathlib.Numerals.{add-one}
+use native.Mathlib.Omega.{arith}
+use Rattle.reconstruct.specs.Reconstruct.{free_to}
+use borrow.Author.Rules.{rules}
+use Rattle.reconstruct.proofs.nfree.Given as goal
+
+abbrev pub invariant-loop-k : goal.invariant-loop-k
+invariant-loop-k l = (l.k ≤ l.active) × (l.c ≤ l.k) × (l.c ≡ free_to l.n l.f l.k)

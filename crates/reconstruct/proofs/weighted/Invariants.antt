@@ -1,0 +1,12 @@
+use Prim.Native.Nat.{◌≤◌, ◌<◌, ◌-◌}
+use mathlib.Core.Path.{◌≡◌, refl}
+use native.Mathlib.Numerals.{add-one}
+use native.Mathlib.Omega.{arith}
+use Rattle.kernel.specs.Row.{kernel_index, row_at}
+use Rattle.state.specs.Lists.{problem, state}
+use Rattle.reconstruct.specs.Reconstruct.{weighted_to}
+use borrow.Author.Rules.{rules}
+use Rattle.reconstruct.proofs.weighted.Given as goal
+
+abbrev pub invariant-loop-j : goal.invariant-loop-j
+invariant-loop-j l = (l.j ≤ l.active) × (l.g ≡ weighted_to (problem l.n l.side l.kind l.m) l.inner (state l.f l.u l.y) l.i l.start l.j) × (l.c < l.side) × (l.c ≡ kernel_index l.n l.u l.i)

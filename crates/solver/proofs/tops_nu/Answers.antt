@@ -1,0 +1,5 @@
+use borrow.Author.Rules.{rules}
+use Rattle.solver.proofs.tops_nu.Goals as goal
+
+pub returns : goal.returns
+returns c = rw (c.nu.ensures, c.level_nu.ensures)

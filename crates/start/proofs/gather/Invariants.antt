@@ -1,0 +1,13 @@
+use Prim.Native.Nat.{◌≤◌, ◌-◌}
+use mathlib.Core.Path.{◌≡◌, refl, ◌∙◌}
+use native.Mathlib.Numerals.{add-one}
+use native.Mathlib.Omega.{arith}
+use lib.ListN.{length}
+use Rattle.state.specs.Lists.{problem, state}
+use Rattle.state.proofs.Kept.{ready_floats}
+use Rattle.start.specs.Start.{gathered_to}
+use borrow.Author.Rules.{rules}
+use Rattle.start.proofs.gather.Given as goal
+
+abbrev pub invariant-loop-i : goal.invariant-loop-i
+invariant-loop-i l = (l.i ≤ l.n) × (length l.f ≡ length l.initial.f) × (l.f ≡ gathered_to (problem l.n l.side l.kind l.m) l.b (state l.initial.f l.u l.y) l.i)

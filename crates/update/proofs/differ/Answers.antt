@@ -1,0 +1,7 @@
+use Rattle.update.specs.Pair.{differed}
+use borrow.Author.Rules.{rules}
+use Rattle.update.proofs.differ.Goals as goal
+
+pub returns : goal.returns
+unfolding differed
+returns c = rw (c.differ_high.ensures, c.differ_low.ensures, c.held.ensures)

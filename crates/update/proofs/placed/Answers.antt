@@ -1,0 +1,5 @@
+use borrow.Author.Rules.{rules}
+use Rattle.update.proofs.placed.Goals as goal
+
+pub returns : goal.returns
+returns c = rw (c.from.ensures, c.ceiling_at.ensures)

@@ -1,0 +1,7 @@
+use Rattle.update.specs.Update.{updated}
+use borrow.Author.Rules.{rules}
+use Rattle.update.proofs.update.Goals as goal
+
+pub returns : goal.returns
+unfolding updated
+returns c = rw (c.carry.ensures, c.pair_at-q.ensures)
