@@ -1,5 +1,6 @@
 // The answer of a run and both readings, and the scratch cleared.
 #![tactic(auto)]
+
 ghost use Rattle.std.specs.Prelude.{◌≡◌, Bool, true, false, ℕ, ◌+◌, ◌*◌, ◌≤◌, ◌<◌, length};
 ghost use Rattle.readings.specs.Order.{NamesSamples, crate_reading, home_reading, weight_in};
 ghost use Rattle.solver.specs.Run.{Full, full};

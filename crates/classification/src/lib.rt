@@ -1,5 +1,6 @@
 // What the four entries share: their definitions, and from what was judged to the answer.
 #![tactic(auto)]
+
 ghost use Rattle.std.specs.Prelude.{◌≡◌, ℕ, ◌*◌, ◌≤◌, length};
 ghost use Rattle.answer.specs.Lent.{lent, Whole, whole};
 ghost use Rattle.answer.specs.Solved.{solved};

@@ -1,5 +1,6 @@
 // The nu entry: refusals 1 to 10 and 14 first, then the run. Under a tuning, and under the plain one.
 #![tactic(auto)]
+
 ghost use Rattle.std.specs.Prelude.{◌≡◌, Bool, true, ℕ, ◌*◌, ◌≤◌, length};
 ghost use Rattle.alpha.specs.Weight.{one};
 ghost use Rattle.answer.specs.Lent.{lent, Whole, whole};

@@ -1,6 +1,7 @@
 // The entry with retired samples: the general run, over linear terms that are NaN where a sample is retired. Its gradient is NaN then from start to
 // end, and no comparison of pair choice or rho takes it; the obj sum asks who stands.
 #![tactic(auto)]
+
 ghost use Rattle.std.specs.Prelude.{◌≡◌, cond, false as off, ◌*◌, ◌≤◌, length};
 ghost use Rattle.answer.specs.Lent.{lent, Whole, whole};
 ghost use Rattle.classification.specs.Entries.{given_by};

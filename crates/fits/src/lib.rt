@@ -1,5 +1,6 @@
 // What each fit starts from, and the lent scratch loaded with it.
 #![tactic(auto)]
+
 ghost use Rattle.std.specs.Prelude.{◌≡◌, Bool, ℕ, ◌+◌, ◌*◌, ◌≤◌, ◌<◌, eqb, length};
 ghost use Rattle.floats.specs.Helpers.{whole_product};
 ghost use Rattle.state.specs.Lists.{State, state};

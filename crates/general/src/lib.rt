@@ -1,5 +1,6 @@
 // The general entry: refusals 1 to 10 and 14 first, then the run. Under a tuning, and under the plain one.
 #![tactic(auto)]
+
 ghost use Rattle.std.specs.Prelude.{◌≡◌, Bool, ℕ, ◌*◌, ◌≤◌, length};
 ghost use Rattle.answer.specs.Lent.{lent, Whole, whole};
 ghost use Rattle.classification.specs.Entries.{general_tuned_sized, general_tuned, general_of};

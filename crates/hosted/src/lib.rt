@@ -1,5 +1,6 @@
 // Lists and answers as the host's bytes.
 #![tactic(auto)]
+
 ghost use Rattle.std.specs.Prelude.{◌≡◌, Bool, ℕ, ◌+◌, ◌*◌, ◌≤◌, ◌<◌, length};
 ghost use Rattle.answer.specs.Answer.{ratio_there, ratio_bits, reason_number, words_of};
 ghost use Rattle.hosted.specs.Hosted.{decoded_to, stored_to, words_to, answered_by, eights, zeroed_to, padded, tuning_known, floor_known, floor_of, word_on, mode_of, tuning_of, host_sizes, Handed, handed, delivered_by, turned_away, turned_wide, fresh_places, fresh_floats, fresh_numbers, fresh_bytes, fresh_sheet};

@@ -1,5 +1,6 @@
 // The least of a list of floats by eight lanes: which sixteen have it first, the place after. Only faster than one loop over the list.
 #![tactic(auto)]
+
 ghost use Rattle.std.specs.Prelude.{true, false, cond, ◌≡◌, ◌+◌, ◌-◌, ◌≤◌, length, get_or};
 ghost use Rattle.std.specs.Float.{inf, nan};
 ghost use Rattle.extreme.specs.Best.{at_most, best};

@@ -1,5 +1,6 @@
 // The C, nu and one-class entries with shrinking on, for a host that lends no scratch: after refusals 1 and 2, with working room of their own.
 #![tactic(auto)]
+
 ghost use Rattle.std.specs.Prelude.{◌≡◌, true, ◌*◌, ◌≤◌, length};
 ghost use Rattle.classification.specs.Entries.{fit_cTuned_sized, fit_nu_tuned_sized, fit_one_class_tuned_sized};
 ghost use Rattle.hosted.specs.Hosted.{room, Handed, handed, delivered};

@@ -1,6 +1,7 @@
 // The leaves of a training without an order table: one sample's copies, all copies shifted, and one step.
 // The parameters f and y are the lent floats and labels, and cpos and cneg the ceilings by label: orderless/specs/Sheet.antt.
 #![tactic(auto)]
+
 ghost use Rattle.std.specs.Prelude.{◌≡◌, ◌+◌, ◌*◌, ◌≤◌, ◌<◌, eqb, length, get_or};
 ghost use Rattle.std.specs.Float.{binary64, nan};
 ghost use Rattle.std.specs.Float.Ieee.{add, sub, mul};

@@ -1,6 +1,7 @@
 // What the comparison with the oracle calls: a run over lists that the caller has loaded. It is no entry: what it requires, the
 // caller has to see to.
 #![tactic(auto)]
+
 ghost use Rattle.std.specs.Prelude.{Bool, not, ◌≡◌, ℕ, ◌+◌, ◌*◌, ◌≤◌, eqb, length};
 ghost use Rattle.solver.specs.End.{trained};
 ghost use Rattle.solver.specs.Run.{problem_of};

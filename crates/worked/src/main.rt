@@ -1,5 +1,6 @@
 // Prints what the proved leaves answer on small inputs, then the rule's worked runs through the entries.
 #![tactic(auto)]
+
 mod leaves;
 mod runs;
 

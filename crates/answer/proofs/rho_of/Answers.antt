@@ -1,0 +1,15 @@
+use Rattle.answer.specs.Answer.{rho_of}
+use borrow.Author.Rules.{rules}
+use Rattle.answer.proofs.rho_of.Goals as goal
+
+pub returns-in-Plain : goal.returns-in-Plain
+unfolding rho_of
+returns-in-Plain c = rw c.in-Plain.is
+
+pub returns-in-Signed : goal.returns-in-Signed
+unfolding rho_of
+returns-in-Signed c = rw c.in-Signed.is
+
+pub returns-in-Scaled : goal.returns-in-Scaled
+unfolding rho_of
+returns-in-Scaled c = rw c.in-Scaled.is

@@ -1,0 +1,21 @@
+use mathlib.Core.Path.{sym, ◌∙◌}
+use borrow.Author.Tests.{eq-eqb, ne_eqb}
+use lib.ListN.{length}
+use Rattle.judge.proofs.Lengths.{inputs_of, room_of, long_enough}
+use Rattle.classification.specs.Entries.{entered, fit_nu_tuned}
+use borrow.Author.Rules.{rules}
+use Rattle.fit_nu.proofs.fit_nu_tuned.Goals as goal
+
+pub sized-requires : goal.sized-requires
+sized-requires c =
+    let s = c in
+    let h = sym c.sized-s.ensures ∙ c.if-s-eq0.true in
+    (room_of _ _ _ _ _ _ _ _ h, long_enough s.args.n (length s.args.l.now) (inputs_of _ _ _ _ _ _ _ _ h))
+
+pub returns-then-s-eq0 : goal.returns-then-s-eq0
+unfolding fit_nu_tuned entered
+returns-then-s-eq0 c = rw (← c.sized-s.ensures, eq-eqb _ _ c.if-s-eq0.true) c.sized.ensures
+
+pub returns : goal.returns
+unfolding fit_nu_tuned entered
+returns c = rw (← c.sized-s.ensures, ne_eqb _ _ c.if-s-eq0.false)

@@ -1,0 +1,12 @@
+use native.Mathlib.Omega.{arith}
+use borrow.Author.Rules.{rules}
+use Rattle.fit_nu.proofs.started.Goals as goal
+
+pub fit-requires : goal.fit-requires
+fit-requires c =
+    let s = c in
+    let o = s.requires.0.most in
+    (rw c.given-g.ensures, rw c.given-g.ensures s.requires.0, rw c.given-g.ensures s.requires.1, s.requires.2, rw c.given-g.ensures s.requires.3, rw c.given-g.ensures (omega (arith, o)), rw c.given-g.ensures (omega (arith, o)), rw c.given-g.ensures (omega (arith, o)))
+
+pub returns : goal.returns
+returns c = rw (← c.fill_floats.ensures, ← c.alphas_nu.ensures, ← c.given-g.ensures) c.fit.ensures

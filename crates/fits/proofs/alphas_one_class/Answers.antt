@@ -1,0 +1,19 @@
+use Prim.Native.Nat.{◌≤◌, ◌-◌}
+use mathlib.Core.Path.{◌≡◌, refl}
+use native.Mathlib.Numerals.{add-one}
+use native.Mathlib.Omega.{arith}
+use lib.ListN.{length}
+use Rattle.fits.specs.Starts.{one_class_to}
+use borrow.Author.Rules.{rules}
+use Rattle.fits.proofs.alphas_one_class.Goals as goal
+
+pub loop-k-init : goal.loop-k-init
+unfolding one_class_to
+loop-k-init c = (search rules, refl, refl)
+
+pub loop-k-preserved : goal.loop-k-preserved
+unfolding one_class_to
+loop-k-preserved c = (search rules, search rules, rw (add-one, ← c.loop-k.invariant.2, ← c.one_class_alpha.ensures))
+
+pub returns : goal.returns
+returns c = let e : c.loop-k.k ≡ c.args.n = omega arith in rw e at c.loop-k.invariant.2

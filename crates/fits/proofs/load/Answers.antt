@@ -1,0 +1,5 @@
+use borrow.Author.Rules.{rules}
+use Rattle.fits.proofs.load.Goals as goal
+
+pub returns : goal.returns
+returns c = rw (c.load_labels.ensures, c.load_numbers.ensures, c.load_floats.ensures)

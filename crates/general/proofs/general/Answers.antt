@@ -1,0 +1,5 @@
+use borrow.Author.Rules.{rules}
+use Rattle.general.proofs.general.Goals as goal
+
+pub returns : goal.returns
+returns c = rw (← c.plain-t.ensures) c.general_tuned.ensures

@@ -1,0 +1,23 @@
+use Prim.Native.Nat.{◌-◌, ◌≤◌}
+use mathlib.Core.Logic.{⊎_elim}
+use mathlib.Core.Path.{◌≡◌}
+use native.Mathlib.Omega.{arith}
+use Rattle.lanes.specs.Lanes.{last_in}
+use Rattle.lanes.proofs.Steps.{last_more}
+use borrow.Author.Rules.{rules}
+use Rattle.lanes.proofs.last_in.Goals as goal
+
+pub loop-k-init : goal.loop-k-init
+unfolding last_in
+loop-k-init c = (search rules, search rules, let e : c.args.t - c.args.t ≡ 0 = omega arith in rw e)
+
+pub loop-k-preserved : goal.loop-k-preserved
+loop-k-preserved c =
+    let a = c.args in
+    let k = c.loop-k.k in
+    (search rules, search rules, rw (last_more a.f.now a.t k c.loop-k.invariant.0 a.v) (⊎_elim (λ w. rw (w.1, w.0.taken)) (λ w. rw (w.1, w.0.left) c.loop-k.invariant.2) c.if-f-k.branch))
+
+pub returns : goal.returns
+returns c =
+    let e : c.loop-k.k ≡ c.args.e = omega arith in
+    rw e at c.loop-k.invariant.2

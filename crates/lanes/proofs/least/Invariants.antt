@@ -1,0 +1,16 @@
+use Prim.Native.Nat.{suc, ◌+◌, ◌-◌, ◌*◌, ◌/◌, ◌≤◌}
+use mathlib.Core.Logic.{⊎_elim}
+use mathlib.Core.Path.{◌≡◌, sym, ◌∙◌}
+use native.Mathlib.Omega.{arith}
+use Rattle.extreme.specs.Best.{best}
+use Rattle.extreme.specs.Racing.{racing}
+use Rattle.lanes.specs.Lanes.{least_by, begins}
+use Rattle.lanes.proofs.Steps.{infinity_is, whole_is, rest_is, turn_taken, turn_kept}
+use borrow.Author.Rules.{rules}
+use Rattle.lanes.proofs.least.Given as goal
+
+abbrev pub invariant-loop-t : goal.invariant-loop-t
+invariant-loop-t l = (l.t ≤ l.n) × (l.t ≡ 16 * (l.t / 16)) × (l.h ≤ l.n) × (racing l.v l.h ≡ begins (least_by l.nu l.f l.o l.n (l.t / 16)))
+
+abbrev pub decreases-loop-t : goal.decreases-loop-t
+decreases-loop-t l = l.n - l.t

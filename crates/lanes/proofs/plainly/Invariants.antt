@@ -1,0 +1,15 @@
+use Prim.Native.Nat.{◌+◌, ◌-◌, ◌≤◌}
+use mathlib.Core.Bool.{true, false, cond}
+use mathlib.Core.Path.{◌≡◌, refl, ◌∙◌}
+use native.Mathlib.Numerals.{add-one}
+use native.Mathlib.Omega.{arith}
+use lib.Ieee.{nan, inf, of_bits, div}
+use lib.ListN.{get_or}
+use Rattle.extreme.specs.Best.{at_most, best}
+use Rattle.extreme.specs.Racing.{below, race_of}
+use Rattle.extreme.proofs.Racing.{race_weighed}
+use borrow.Author.Rules.{rules}
+use Rattle.lanes.proofs.plainly.Given as goal
+
+abbrev pub invariant-loop-k : goal.invariant-loop-k
+invariant-loop-k l = (l.k ≤ l.n) × (l.r ≡ race_of l.n (best (cond l.nu below at_most) (inf false) (λ l.k. true) (λ l.k. get_or l.f (l.o + l.k) nan) l.k))

@@ -1,0 +1,5 @@
+use borrow.Author.Rules.{rules}
+use Rattle.sheet.proofs.place.Goals as goal
+
+pub returns : goal.returns
+returns c = rw (c.from.ensures, c.ceiling.ensures) at c.put.ensures

@@ -1,0 +1,13 @@
+use Prim.Native.Nat.{◌≤◌, ◌-◌}
+use mathlib.Core.Path.{◌≡◌, refl, ◌∙◌}
+use native.Mathlib.Numerals.{add-one}
+use native.Mathlib.Omega.{arith}
+use lib.Ieee.{binary64, add, mul}
+use lib.ListN.{length}
+use Rattle.kernel.specs.Matrix.{entry_at}
+use Rattle.orderless.specs.Step.{shift_in}
+use borrow.Author.Rules.{rules}
+use Rattle.sheet.proofs.shift.Given as goal
+
+abbrev pub invariant-loop-k : goal.invariant-loop-k
+invariant-loop-k l = (l.k ≤ l.n) × (length l.f ≡ length l.initial.f) × (l.f ≡ shift_in l.nu l.n (λ l.k. add binary64 (mul binary64 (entry_at l.side l.m l.i l.k) l.x) (mul binary64 (entry_at l.side l.m l.j l.k) l.z)) l.initial.f l.k)

@@ -1,0 +1,14 @@
+use Prim.Native.Nat.{◌-◌}
+use mathlib.Core.Path.{◌≡◌, refl}
+use lib.ListN.{length}
+use borrow.Author.Rules.{rules}
+use Rattle.telling.proofs.room.identity.Goals as goal
+
+pub loop-at-init : goal.loop-at-init
+loop-at-init c = refl
+
+pub loop-at-preserved : goal.loop-at-preserved
+loop-at-preserved c = search rules
+
+pub returns : goal.returns
+returns c = tt
