@@ -1,5 +1,4 @@
 use Prim.Native.Nat.{suc, ◌+◌, ◌-◌, ◌*◌, ◌/◌, ◌≤◌}
-use mathlib.Core.Logic.{⊎_elim}
 use mathlib.Core.Path.{◌≡◌, sym, ◌∙◌}
 use native.Mathlib.Omega.{arith}
 use Rattle.extreme.specs.Best.{best}
@@ -8,6 +7,7 @@ use Rattle.lanes.specs.Lanes.{least_by, begins}
 use Rattle.lanes.proofs.Steps.{infinity_is, whole_is, rest_is, turn_taken, turn_kept}
 use borrow.Author.Rules.{rules}
 use Rattle.lanes.proofs.least.Goals as goal
+use Rattle.lanes.proofs.least.Goals.{then-less, else-less}
 
 pub loop-t-init : goal.loop-t-init
 unfolding best
@@ -23,11 +23,11 @@ loop-t-preserved c =
     let q = whole_is f a.o a.n l.t l.invariant.1 c.loop-t-test.true ∙ sym c.least_from-w.ensures in (
       search rules,
       search rules,
-      ⊎_elim (λ z. omega arith) (λ z. omega arith) c.if-less.branch,
-      rw e (⊎_elim
-          (λ z. rw (z.1, z.2) (turn_taken f a.o a.n l.t l.invariant.1 a.nu l.v w l.h l.invariant.3 q (sym c.less.ensures ∙ z.0.taken)))
-          (λ z. rw (z.1, z.2) (turn_kept f a.o a.n l.t l.invariant.1 a.nu l.v w l.h l.invariant.3 q (sym c.less.ensures ∙ z.0.left)))
-          c.if-less.branch),
+      elim c.if-less.branch [ then-less z ↦ omega arith | else-less z ↦ omega arith ],
+      rw e (elim c.if-less.branch [
+        | then-less z ↦ rw (z.v-is, z.h-is) (turn_taken f a.o a.n l.t l.invariant.1 a.nu l.v w l.h l.invariant.3 q (sym c.less.ensures ∙ z.if-less.true))
+        | else-less z ↦ rw (z.v-is, z.h-is) (turn_kept f a.o a.n l.t l.invariant.1 a.nu l.v w l.h l.invariant.3 q (sym c.less.ensures ∙ z.if-less.false))
+      ]),
     )
 
 pub returns-then-less-2 : goal.returns-then-less-2

@@ -12,4 +12,4 @@ use borrow.Author.Rules.{rules}
 use Rattle.lanes.proofs.plainly.Given as goal
 
 abbrev pub invariant-loop-k : goal.invariant-loop-k
-invariant-loop-k l = (l.k ≤ l.n) × (l.r ≡ race_of l.n (best (cond l.nu below at_most) (inf false) (λ l.k. true) (λ l.k. get_or l.f (l.o + l.k) nan) l.k))
+invariant-loop-k l = (l.k ≤ l.n) × (l.r ≡ race_of l.n (best (cond l.nu below at_most) (inf false) (λ q. true) (λ q. get_or l.f (l.o + q) nan) l.k))

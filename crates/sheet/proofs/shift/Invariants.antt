@@ -10,4 +10,4 @@ use borrow.Author.Rules.{rules}
 use Rattle.sheet.proofs.shift.Given as goal
 
 abbrev pub invariant-loop-k : goal.invariant-loop-k
-invariant-loop-k l = (l.k ≤ l.n) × (length l.f ≡ length l.initial.f) × (l.f ≡ shift_in l.nu l.n (λ l.k. add binary64 (mul binary64 (entry_at l.side l.m l.i l.k) l.x) (mul binary64 (entry_at l.side l.m l.j l.k) l.z)) l.initial.f l.k)
+invariant-loop-k l = (l.k ≤ l.n) × (length l.f ≡ length l.initial.f) × (l.f ≡ shift_in l.nu l.n (λ q. add binary64 (mul binary64 (entry_at l.side l.m l.i q) l.x) (mul binary64 (entry_at l.side l.m l.j q) l.z)) l.initial.f l.k)
