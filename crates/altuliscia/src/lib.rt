@@ -7,8 +7,7 @@ ghost use Rattle.wide.specs.Wide.{general_tuned_host, c_tuned_host, nu_tuned_hos
 ghost use Rattle.altuliscia.specs.Functions.{general_host, retired_host, c_host, nu_host, one_class_host, PairHanded, pair_handed, pair_host, VotesHanded, votes_handed, votes_host, version};
 
 // Labels l, ceilings c, start alphas a and linear term p.
-#[unsafe(no_mangle)]
-pub extern "C" fn altuliscia_general(
+pub fn altuliscia_general(
     n: usize,
     m: &[u8],
     l: &[u8],
@@ -56,8 +55,7 @@ pub extern "C" fn altuliscia_general(
 }
 
 // The general one, over the samples that aren't retired: a byte of r for each sample, and a tuning t of eight-byte words.
-#[unsafe(no_mangle)]
-pub extern "C" fn altuliscia_retired(
+pub fn altuliscia_retired(
     n: usize,
     m: &[u8],
     l: &[u8],
@@ -98,8 +96,7 @@ pub extern "C" fn altuliscia_retired(
 }
 
 // A ceiling for each label.
-#[unsafe(no_mangle)]
-pub extern "C" fn altuliscia_c(
+pub fn altuliscia_c(
     n: usize,
     m: &[u8],
     l: &[u8],
@@ -141,8 +138,7 @@ pub extern "C" fn altuliscia_c(
 }
 
 // The nu rule.
-#[unsafe(no_mangle)]
-pub extern "C" fn altuliscia_nu(
+pub fn altuliscia_nu(
     n: usize,
     m: &[u8],
     l: &[u8],
@@ -181,8 +177,7 @@ pub extern "C" fn altuliscia_nu(
 }
 
 // No labels.
-#[unsafe(no_mangle)]
-pub extern "C" fn altuliscia_one_class(
+pub fn altuliscia_one_class(
     n: usize,
     m: &[u8],
     nu: u64,
@@ -208,8 +203,7 @@ pub extern "C" fn altuliscia_one_class(
 }
 
 // The same four under a tuning t of eight-byte words, with an answer of 128 bytes.
-#[unsafe(no_mangle)]
-pub extern "C" fn altuliscia_general_tuned(
+pub fn altuliscia_general_tuned(
     n: usize,
     m: &[u8],
     l: &[u8],
@@ -233,8 +227,7 @@ pub extern "C" fn altuliscia_general_tuned(
     )
 }
 
-#[unsafe(no_mangle)]
-pub extern "C" fn altuliscia_c_tuned(
+pub fn altuliscia_c_tuned(
     n: usize,
     m: &[u8],
     l: &[u8],
@@ -256,8 +249,7 @@ pub extern "C" fn altuliscia_c_tuned(
     )
 }
 
-#[unsafe(no_mangle)]
-pub extern "C" fn altuliscia_nu_tuned(
+pub fn altuliscia_nu_tuned(
     n: usize,
     m: &[u8],
     l: &[u8],
@@ -276,8 +268,7 @@ pub extern "C" fn altuliscia_nu_tuned(
     wide::nu(n, m, l, nu, eps, shrinking, budget, t, cr, h, answer)
 }
 
-#[unsafe(no_mangle)]
-pub extern "C" fn altuliscia_one_class_tuned(
+pub fn altuliscia_one_class_tuned(
     n: usize,
     m: &[u8],
     nu: u64,
@@ -296,8 +287,7 @@ pub extern "C" fn altuliscia_one_class_tuned(
 }
 
 // One step's pair: weight and ceiling of i and of j, gradients, diagonals, the entry of row i at j.
-#[unsafe(no_mangle)]
-pub extern "C" fn altuliscia_pair(
+pub fn altuliscia_pair(
     ai: u64,
     bi: u64,
     aj: u64,
@@ -330,8 +320,7 @@ pub extern "C" fn altuliscia_pair(
 }
 
 // Languages from pairs of trainings: coefficients c and kernel values u of all pairs, how many of each a pair has, rhos.
-#[unsafe(no_mangle)]
-pub extern "C" fn altuliscia_votes(
+pub fn altuliscia_votes(
     k: usize,
     c: &[u8],
     u: &[u8],
@@ -353,8 +342,7 @@ pub extern "C" fn altuliscia_votes(
 }
 
 // Which version this is.
-#[unsafe(no_mangle)]
-pub extern "C" fn altuliscia_version() -> u64
+pub fn altuliscia_version() -> u64
     ensures { ◌≡◌ {A = ℕ} result version }
 {
     10600

@@ -174,6 +174,8 @@ infinite_product t (fin false n d) pf h s = go (eqb n 0) h
     go : (b : Bool) → T (lt t (cond b nan (inf true))) → ⊥
     go true k = true≢false (sym ((holds _).0 k) ∙ lt_nan t)
     go false k = below_top t k
+infinite_product t nan pf h s = elim pf [ ]
+infinite_product t (inf _) pf h s = elim pf [ ]
 
 infinite_zero : (s : Bool) (t : Float) → T (lt t (mul binary64 (inf s) Weight.zero)) → ⊥
 unfolding mul of_bits
@@ -192,6 +194,8 @@ by_infinity : (t : Float) → T (finite t) → negative t ≡ false → div bina
 unfolding div neg of_bits
 by_infinity (fin true m e) h s = absurd (true≢false s)
 by_infinity (fin false m e) h s = refl
+by_infinity nan h s = elim h [ ]
+by_infinity (inf _) h s = elim h [ ]
 
 top_above : lt Weight.zero (inf false) ≡ true
 unfolding lt of_bits

@@ -1,6 +1,7 @@
 // The pair choice of a training without an order table: the least by lanes, and the second behind a bar.
 // The parameters f and y are the lent floats and labels: orderless/specs/Sheet.antt.
 #![tactic(auto)]
+
 ghost use Rattle.std.specs.Prelude.{true, false, not, cond, ◌≡◌, ◌+◌, ◌-◌, ◌*◌, ◌≤◌, ◌<◌, length, get_or};
 ghost use Rattle.std.specs.Float.{binary64, inf, nan};
 ghost use Rattle.std.specs.Float.Ieee.{sub, lt};

@@ -1,4 +1,5 @@
 // A record of the oracle's answers, played through its entry and compared.
 #![tactic(auto)]
+
 pub mod calls;
 pub mod compared;

@@ -46,8 +46,7 @@ fn put(out: &mut [f64], l: Level, obj: f64)
 }
 
 // Into out go rho, r and obj.
-#[unsafe(no_mangle)]
-pub extern "C" fn trial_run(
+pub fn trial_run(
     f: &mut [f64],
     u: &mut [u64],
     y: &mut [u8],

@@ -1,0 +1,7 @@
+use Rattle.picks.specs.Follow.{reaches_of}
+use borrow.Author.Rules.{rules}
+use Rattle.picks.proofs.reaches.Goals as goal
+
+pub returns : goal.returns
+unfolding reaches_of
+returns c = rw c.quad_coef-q.ensures
