@@ -1,0 +1,13 @@
+use Prim.Native.Nat.{◌≤◌, ◌-◌}
+use mathlib.Core.Path.{◌≡◌, refl}
+use native.Mathlib.Numerals.{add-one}
+use native.Mathlib.Omega.{arith}
+use lib.ListN.{length, length-set}
+use Rattle.kernel.specs.Row.{signed_of}
+use Rattle.orderless.specs.Run.{spread}
+use Rattle.rho.specs.Rho.{positive_in}
+use borrow.Author.Rules.{rules}
+use Rattle.course.proofs.begin.Given as goal
+
+abbrev pub invariant-loop-k : goal.invariant-loop-k
+invariant-loop-k l = (l.k ≤ l.n) × (length l.f ≡ length l.initial.f) × (l.f ≡ spread (λ l.k. signed_of (positive_in l.y l.k) l.p) l.initial.f l.k)

@@ -1,0 +1,23 @@
+use Prim.Native.Nat.{◌≤◌, ◌-◌}
+use mathlib.Core.Path.{◌≡◌, refl}
+use native.Mathlib.Numerals.{add-one}
+use native.Mathlib.Omega.{arith}
+use lib.ListN.{length, length-set}
+use lib.Ieee.{binary64, mul}
+use Rattle.kernel.specs.Matrix.{entry_at}
+use Rattle.orderless.specs.Run.{raised_to}
+use borrow.Author.Rules.{rules}
+use Rattle.course.proofs.bring.Goals as goal
+
+pub loop-k-init : goal.loop-k-init
+unfolding raised_to
+loop-k-init c = (search rules, refl, refl)
+
+pub loop-k-preserved : goal.loop-k-preserved
+unfolding raised_to
+loop-k-preserved c = let v = c.loop-k.invariant in (search rules, simp length-set v.1, rw (add-one, ← v.2, ← c.entry.ensures))
+
+pub returns : goal.returns
+returns c =
+    let e : c.loop-k.k ≡ c.args.n = omega arith in
+    rw e at c.loop-k.invariant.2

@@ -1,0 +1,13 @@
+use Prim.Native.Nat.{◌≤◌, ◌-◌}
+use mathlib.Core.Path.{◌≡◌, refl}
+use native.Mathlib.Numerals.{add-one}
+use native.Mathlib.Omega.{arith}
+use lib.ListN.{length, length-set}
+use lib.Ieee.{binary64, mul}
+use Rattle.kernel.specs.Matrix.{entry_at}
+use Rattle.orderless.specs.Run.{raised_to}
+use borrow.Author.Rules.{rules}
+use Rattle.course.proofs.bring.Given as goal
+
+abbrev pub invariant-loop-k : goal.invariant-loop-k
+invariant-loop-k l = (l.k ≤ l.n) × (length l.f ≡ length l.initial.f) × (l.f ≡ raised_to (λ l.k. mul binary64 l.x (entry_at l.side l.m l.i l.k)) l.initial.f l.k)
