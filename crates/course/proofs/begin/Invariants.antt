@@ -10,4 +10,4 @@ use borrow.Author.Rules.{rules}
 use Rattle.course.proofs.begin.Given as goal
 
 abbrev pub invariant-loop-k : goal.invariant-loop-k
-invariant-loop-k l = (l.k ≤ l.n) × (length l.f ≡ length l.initial.f) × (l.f ≡ spread (λ l.k. signed_of (positive_in l.y l.k) l.p) l.initial.f l.k)
+invariant-loop-k l = (l.k ≤ l.n) × (length l.f ≡ length l.initial.f) × (l.f ≡ spread (λ q. signed_of (positive_in l.y q) l.p) l.initial.f l.k)

@@ -10,4 +10,4 @@ use borrow.Author.Rules.{rules}
 use Rattle.course.proofs.bring.Given as goal
 
 abbrev pub invariant-loop-k : goal.invariant-loop-k
-invariant-loop-k l = (l.k ≤ l.n) × (length l.f ≡ length l.initial.f) × (l.f ≡ raised_to (λ l.k. mul binary64 l.x (entry_at l.side l.m l.i l.k)) l.initial.f l.k)
+invariant-loop-k l = (l.k ≤ l.n) × (length l.f ≡ length l.initial.f) × (l.f ≡ raised_to (λ q. mul binary64 l.x (entry_at l.side l.m l.i q)) l.initial.f l.k)

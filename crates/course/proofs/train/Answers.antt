@@ -15,7 +15,7 @@ go_on-requires c =
     let top = ceilings_of a.cpos a.cneg in
     let d = diagonal_in a.g m a.f.now a.g.n in
     let e = started_is a.g m y top a.p a.f.now _ _ _ _ c.diagonals.ensures c.begin.ensures c.gather.ensures c.before.before.before.«open».ensures in (
-      ready_long P.0 (c.before.before.before.«open».auto.0 ∙ c.gather.auto.f ∙ c.begin.auto.f ∙ c.diagonals.auto.f),
+      ready_long P.0 (c.before.before.before.«open».auto.f ∙ c.gather.auto.f ∙ c.begin.auto.f ∙ c.diagonals.auto.f),
       rw e (diagonal_started a.g m y top (λ k. a.p) d (rw (length_diagonal a.g m a.f.now a.g.n) P.0.floats) (diagonal_filled a.g m a.f.now P.0.floats)),
       rw e (fitting_started a.g m y top a.p d (rw (length_diagonal a.g m a.f.now a.g.n) P.0.floats) P.3),
       P.1,
