@@ -1,6 +1,7 @@
 // A fit without an order table: the start weights into their field, the run, what it answers, and the used scratch cleared.
 // The parameters f and l are the lent floats and labels, cpos and cneg the ceilings by label, p the linear term: orderless/specs/Sheet.antt.
 #![tactic(auto)]
+
 ghost use Rattle.std.specs.Prelude.{◌≡◌, ◌+◌, ◌*◌, ◌≤◌, ◌<◌, T, length, get_or, take};
 ghost use Rattle.std.specs.Float.{binary64, nan};
 ghost use Rattle.std.specs.Float.Ieee.{fits};
@@ -8,6 +9,7 @@ ghost use Rattle.answer.specs.Answer.{support_of, rho_of, obj_of, ratio_of, reas
 ghost use Rattle.course.specs.Filled.{diagonal_in};
 ghost use Rattle.orderless.specs.Run.{spread, course, orderless};
 ghost use Rattle.orderless.specs.Sheet.{ceilings_of};
+ghost use Rattle.reply.specs.Replied.{replied};
 ghost use Rattle.sheet.specs.Ready.{SheetReady};
 ghost use Rattle.still.specs.Answered.{Reply, weights_to, reply_of};
 ghost use Rattle.still.specs.Entries.{still_lent, StillWhole, still_whole, still_left, still_room_good, still_sizes_by};
@@ -47,7 +49,7 @@ fn answered(
     budget: usize,
 ) -> Answer
     requires { (g.n ≤ 512) × (g.n ≤ length h.now) }
-    ensures { result ≡ record { rho = rho_of how v; result = ratio_of g.nu v; obj = obj_of how v obj; iterations = steps; exit_reason = reason_of steps budget; support = support_of h.now g.n } }
+    ensures { result ≡ record { rho = rho_of how v; r = ratio_of g.nu v; obj = obj_of how v obj; iterations = steps; exit_reason = reason_of steps budget; support = support_of h.now g.n } }
 {
     Answer {
         rho: answer::rho_of(how, v),
@@ -74,8 +76,8 @@ fn reply(
     w: Went,
 ) -> Outcome
     requires { (SheetReady g m.now l.now f.now) × (g.n ≤ length h.old) }
-    ensures* { λ o. ⌜ ◌≡◌ {A = Reply} (record { out = o; result = h.new })
-        (reply_of g how m.now l.now (ceilings_of cpos cneg) (λ k. p) budget (course f.now w.steps w.going) h.old) ⌝ }
+    ensures { ◌≡◌ {A = Reply} (replied result h.new)
+        (reply_of g how m.now l.now (ceilings_of cpos cneg) (λ k. p) budget (course f.now w.steps w.going) h.old) }
 {
     let n = g.n;
     let v = course::level(f, l, m, g, cpos, cneg);
@@ -100,10 +102,10 @@ fn fit(
     budget: usize,
 ) -> Outcome
     requires { (SheetReady g m.now l.now f.old) × (1 ≤ g.n) × (budget ≤ 10000000) × (g.n ≤ length a.now) × (g.n ≤ length h.old) × (T (fits binary64 p)) }
-    ensures* { λ o. ⌜ ◌≡◌ {A = Reply} (record { out = o; result = h.new })
+    ensures { ◌≡◌ {A = Reply} (replied result h.new)
         (reply_of g how m.now l.now (ceilings_of cpos cneg) (λ k. p) budget
         (orderless g m.now l.now (ceilings_of cpos cneg) (λ k. p)
-        (diagonal_in g m.now (weights_to g.n a.now f.old g.n) g.n) budget) h.old) ⌝ }
+        (diagonal_in g m.now (weights_to g.n a.now f.old g.n) g.n) budget) h.old) }
 {
     load(f, a, g.n);
     let w = course::train(f, l, m, g, p, cpos, cneg, budget);

@@ -1,0 +1,22 @@
+use Prim.Native.Nat.{◌+◌, ◌≤◌, ◌-◌}
+use mathlib.Core.Path.{◌≡◌, refl}
+use native.Mathlib.Numerals.{add-one}
+use native.Mathlib.Omega.{arith}
+use lib.Ieee.{nan}
+use lib.ListN.{length, get_or, length-set}
+use Rattle.orderless.specs.Run.{spread}
+use borrow.Author.Rules.{rules}
+use Rattle.reply.proofs.give.Goals as goal
+
+pub loop-k-init : goal.loop-k-init
+unfolding spread
+loop-k-init c = (search rules, refl, refl)
+
+pub loop-k-preserved : goal.loop-k-preserved
+unfolding spread
+loop-k-preserved c = let v = c.loop-k.invariant in (search rules, simp length-set v.1, rw (add-one, ← v.2))
+
+pub returns : goal.returns
+returns c =
+    let e : c.loop-k.k ≡ c.args.n = omega arith in
+    rw e at c.loop-k.invariant.2

@@ -1,0 +1,12 @@
+use Prim.Native.Nat.{◌+◌, ◌≤◌, ◌-◌}
+use mathlib.Core.Path.{◌≡◌, refl}
+use native.Mathlib.Numerals.{add-one}
+use native.Mathlib.Omega.{arith}
+use lib.Ieee.{nan}
+use lib.ListN.{length, get_or, length-set}
+use Rattle.orderless.specs.Run.{spread}
+use borrow.Author.Rules.{rules}
+use Rattle.reply.proofs.give.Given as goal
+
+abbrev pub invariant-loop-k : goal.invariant-loop-k
+invariant-loop-k l = (l.k ≤ l.n) × (length l.h ≡ length l.initial.h) × (l.h ≡ spread (λ q. get_or l.f (l.n + q) nan) l.initial.h l.k)
