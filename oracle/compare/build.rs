@@ -1,4 +1,4 @@
-//! Links the archives that `rt staticlib` writes at the repository's root. ALTULISCIA_LIB names another folder with libaltuliscia.a;
+//! Links the archives that tools/native wrote into target/staticlib. ALTULISCIA_LIB names another folder with libaltuliscia.a;
 //! where that one has libtrial.a too, it is linked as well.
 use std::path::Path;
 

@@ -1,7 +1,7 @@
 -- The C functions: each entry over the host's bytes, with its own working room; by a tuning t, and by the plain one.
 use Rattle.std.specs.Prelude.{ℕ, true, ◌&&◌, cond, List, eqb, ltb, length}
 use Rattle.alpha.specs.Weight.{weight}
-use Rattle.classification.specs.Entries.{general_tuned_sized, fit_cTuned_sized, fit_nu_tuned_sized, fit_one_class_tuned_sized}
+use Rattle.classification.specs.Entries.{general_tuned_sized, fit_c_tuned_sized, fit_nu_tuned_sized, fit_one_class_tuned_sized}
 use Rattle.finder.specs.Found.{found_pair, with_pair}
 use Rattle.retired.specs.Entry.{retired_tuned_sized}
 use Rattle.hosted.specs.Hosted.{is_on, as_float, floor_known, tuning_of, floats_of, byte_sizes, general_inputs, room, Handed, delivered, hosted_by}
@@ -37,7 +37,7 @@ unfoldable pub c_host_by : Tuning → ℕ → List ℕ → List ℕ → ℕ → 
 c_host_by t n m l cpos cneg eps shrinking budget cr h an =
     hosted_by
     (byte_sizes n (eqb (length l) n) m cr h an)
-    (delivered n (fit_cTuned_sized t n m l (as_float cpos) (as_float cneg) (as_float eps) (is_on shrinking) budget room) cr h an)
+    (delivered n (fit_c_tuned_sized t n m l (as_float cpos) (as_float cneg) (as_float eps) (is_on shrinking) budget room) cr h an)
     cr
     h
     an

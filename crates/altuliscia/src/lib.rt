@@ -1,5 +1,6 @@
 // The C functions: each entry over the host's bytes, with its own working room.
 #![tactic(auto)]
+
 ghost use Rattle.std.specs.Prelude.{◌≡◌, ℕ};
 ghost use Rattle.hosted.specs.Hosted.{Handed, handed};
 ghost use Rattle.votes.specs.Votes.{panel};

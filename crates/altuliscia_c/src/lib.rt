@@ -27,7 +27,9 @@ pub extern "C" fn altuliscia_general(
     ensures { ◌≡◌ {A = Handed} (handed result cr.new h.new answer.new)
         (general_host n m.now l.now c.now a.now p.now nurule eps shrinking budget cr.old h.old answer.old) }
 {
-    altuliscia::altuliscia_general(n, m, l, c, a, p, nurule, eps, shrinking, budget, cr, h, answer)
+    altuliscia::altuliscia_general(
+        n, m, l, c, a, p, nurule, eps, shrinking, budget, cr, h, answer,
+    )
 }
 
 // The general one, over the samples that aren't retired: a byte of r for each sample, and a tuning t of eight-byte words.
@@ -52,7 +54,9 @@ pub extern "C" fn altuliscia_retired(
     ensures { ◌≡◌ {A = Handed} (handed result cr.new h.new answer.new)
         (retired_host n m.now l.now c.now a.now p.now r.now nurule eps shrinking budget t.now cr.old h.old answer.old) }
 {
-    altuliscia::altuliscia_retired(n, m, l, c, a, p, r, nurule, eps, shrinking, budget, t, cr, h, answer)
+    altuliscia::altuliscia_retired(
+        n, m, l, c, a, p, r, nurule, eps, shrinking, budget, t, cr, h, answer,
+    )
 }
 
 // A ceiling for each label.
@@ -136,7 +140,9 @@ pub extern "C" fn altuliscia_general_tuned(
     ensures { ◌≡◌ {A = Handed} (handed result cr.new h.new answer.new)
         (general_tuned_host n m.now l.now c.now a.now p.now nurule eps shrinking budget t.now cr.old h.old answer.old) }
 {
-    altuliscia::altuliscia_general_tuned(n, m, l, c, a, p, nurule, eps, shrinking, budget, t, cr, h, answer)
+    altuliscia::altuliscia_general_tuned(
+        n, m, l, c, a, p, nurule, eps, shrinking, budget, t, cr, h, answer,
+    )
 }
 
 #[unsafe(no_mangle)]
@@ -157,7 +163,9 @@ pub extern "C" fn altuliscia_c_tuned(
     ensures { ◌≡◌ {A = Handed} (handed result cr.new h.new answer.new)
         (c_tuned_host n m.now l.now cpos cneg eps shrinking budget t.now cr.old h.old answer.old) }
 {
-    altuliscia::altuliscia_c_tuned(n, m, l, cpos, cneg, eps, shrinking, budget, t, cr, h, answer)
+    altuliscia::altuliscia_c_tuned(
+        n, m, l, cpos, cneg, eps, shrinking, budget, t, cr, h, answer,
+    )
 }
 
 #[unsafe(no_mangle)]

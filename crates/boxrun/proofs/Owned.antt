@@ -1,5 +1,5 @@
 -- At each point of a run, whatever its ceilings, the diagonal field is the matrix's; so every entry that the rule reads is of magnitude 2^1000 at the
--- most: `trained-owned`, `entry-diagonal`, `entry_row`. Assumes nothing.
+-- most: `trained_owned`, `entry_diagonal`, `entry_row`. Assumes nothing.
 use Prim.Native.Nat.{ℕ, zero, suc, ◌+◌, ◌*◌, ◌≤◌, ◌<◌}
 use mathlib.Core.Bool.{Bool, true, false}
 use mathlib.Core.List.{List}

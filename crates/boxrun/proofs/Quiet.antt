@@ -1,5 +1,5 @@
 -- What a stop tells of the sums of the extremes, where the entries are of magnitude 2^1000 at the most: by them the rule stops, or none is
--- above 0 (`stop-quiet`). Assumes nothing.
+-- above 0 (`stop_quiet`). Assumes nothing.
 use Prim.Native.Nat.{ℕ, ◌*◌, ◌≤◌, ◌<◌}
 use mathlib.Core.Bool.{Bool, true, false, ◌&&◌}
 use mathlib.Core.List.{List}

@@ -1,5 +1,5 @@
 -- The nu rule: what the definitions of specs/Choice.antt choose is what the rule's words say (specs/Rule.antt), over those that stand. With everybody
--- standing these are the definitions that the contracts cite: `pair-rule`, `optimal-rule`, `sum-nu`. Assumes nothing.
+-- standing these are the definitions that the contracts cite: `pair_rule`, `optimal_rule`, `sum_nu`. Assumes nothing.
 use Prim.Native.Nat.{ℕ, ◌≤◌}
 use mathlib.Core.Bool.{Bool, true, false, ◌&&◌}
 use mathlib.Core.Logic.{◌⊎◌, ◌↔◌}

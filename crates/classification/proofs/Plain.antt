@@ -19,7 +19,7 @@ use Rattle.kernel.specs.declared.Kind.TheVariants.{TwoClass, OneClass}
 use Rattle.modes.specs.declared.Mode.TheVariants.{Crate}
 use Rattle.solver.specs.declared.Given.{Given}
 use Rattle.tuning.specs.Tuning.{plain_tuning}
-use Rattle.classification.specs.Entries.{sizes_of, entered, decided, fitted, general_tuned, general_tuned_sized, fit_cTuned, fit_cTuned_sized, fit_nu_tuned, fit_nu_tuned_sized, fit_one_class_tuned, fit_one_class_tuned_sized, general_of, fit_cOf, fit_nu_of, fit_one_class_of}
+use Rattle.classification.specs.Entries.{sizes_of, entered, decided, fitted, general_tuned, general_tuned_sized, fit_c_tuned, fit_c_tuned_sized, fit_nu_tuned, fit_nu_tuned_sized, fit_one_class_tuned, fit_one_class_tuned_sized, general_of, fit_c_of, fit_nu_of, fit_one_class_of}
 
 pub plain_good : floor_good Weight.floor ≡ true
 unfolding floor_good of_bits lt le
@@ -43,15 +43,15 @@ module _ (n : ℕ) (m l : List ℕ) (eps : Float) (shrinking : Bool) (budget : �
   general_plain c a p nurule = rw (general_sized_plain c a p nurule)
 
   pub c_sized_plain : (cpos cneg : Float)
-      → fit_cTuned_sized plain_tuning n m l cpos cneg eps shrinking budget d
+      → fit_c_tuned_sized plain_tuning n m l cpos cneg eps shrinking budget d
       ≡ decided (c_judged n m l cpos cneg eps budget) (fitted (given_then n TwoClass eps shrinking false) Signed m l (costs_to cpos cneg l nothing n) nothing (evenly minus_one n) budget d) d
-  unfolding fit_cTuned_sized
+  unfolding fit_c_tuned_sized
   c_sized_plain cpos cneg = rw (floor_passed Weight.floor (c_judged n m l cpos cneg eps budget) plain_good)
 
   pub c_plain : (cpos cneg : Float)
-      → fit_cOf n m l cpos cneg eps shrinking budget d
+      → fit_c_of n m l cpos cneg eps shrinking budget d
       ≡ entered (sizes_of n (eqb (length l) n) m d) (decided (c_judged n m l cpos cneg eps budget) (fitted (given_then n TwoClass eps shrinking false) Signed m l (costs_to cpos cneg l nothing n) nothing (evenly minus_one n) budget d) d) d
-  unfolding fit_cTuned
+  unfolding fit_c_tuned
   c_plain cpos cneg = rw (c_sized_plain cpos cneg)
 
   pub nu_sized_plain : (nu : Float)

@@ -62,16 +62,16 @@ general_tuned t n m l c a p nurule eps shrinking budget d =
     entered (sizes_of n inputs m d) (general_tuned_sized t n m l c a p nurule eps shrinking budget d) d
 
 -- alpha 0, linear term −1, ceilings by label; signed by label
-unfoldable pub fit_cTuned_sized : Tuning → ℕ → List ℕ → List ℕ → Float → Float → Float → Bool → ℕ → Lent → Whole
-fit_cTuned_sized t n m l cpos cneg eps shrinking budget d =
+unfoldable pub fit_c_tuned_sized : Tuning → ℕ → List ℕ → List ℕ → Float → Float → Float → Bool → ℕ → Lent → Whole
+fit_c_tuned_sized t n m l cpos cneg eps shrinking budget d =
     decided
     (floor_judged t.floor (c_judged n m l cpos cneg eps budget))
     (fitted (given_by t n TwoClass eps shrinking false) Signed m l (costs_to cpos cneg l nothing n) nothing (evenly minus_one n) budget d)
     d
 
-unfoldable pub fit_cTuned : Tuning → ℕ → List ℕ → List ℕ → Float → Float → Float → Bool → ℕ → Lent → Whole
-fit_cTuned t n m l cpos cneg eps shrinking budget d =
-    entered (sizes_of n (eqb (length l) n) m d) (fit_cTuned_sized t n m l cpos cneg eps shrinking budget d) d
+unfoldable pub fit_c_tuned : Tuning → ℕ → List ℕ → List ℕ → Float → Float → Float → Bool → ℕ → Lent → Whole
+fit_c_tuned t n m l cpos cneg eps shrinking budget d =
+    entered (sizes_of n (eqb (length l) n) m d) (fit_c_tuned_sized t n m l cpos cneg eps shrinking budget d) d
 
 -- alpha shared out by label, linear term 0, ceilings 1; signed by label and divided by r
 unfoldable pub fit_nu_tuned_sized : Tuning → ℕ → List ℕ → List ℕ → Float → Float → Bool → ℕ → Lent → Whole
@@ -104,8 +104,8 @@ given_of = given_by plain_tuning
 abbrev pub general_of : ℕ → List ℕ → List ℕ → List Float → List Float → List Float → Bool → Float → Bool → ℕ → Lent → Whole
 general_of = general_tuned plain_tuning
 
-abbrev pub fit_cOf : ℕ → List ℕ → List ℕ → Float → Float → Float → Bool → ℕ → Lent → Whole
-fit_cOf = fit_cTuned plain_tuning
+abbrev pub fit_c_of : ℕ → List ℕ → List ℕ → Float → Float → Float → Bool → ℕ → Lent → Whole
+fit_c_of = fit_c_tuned plain_tuning
 
 abbrev pub fit_nu_of : ℕ → List ℕ → List ℕ → Float → Float → Bool → ℕ → Lent → Whole
 fit_nu_of = fit_nu_tuned plain_tuning

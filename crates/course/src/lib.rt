@@ -10,10 +10,10 @@ ghost use Rattle.course.specs.Filled.{diagonal_in, joined_in};
 ghost use Rattle.kernel.specs.Matrix.{Matrix, entry_at};
 ghost use Rattle.kernel.specs.Row.{signed_of};
 ghost use Rattle.orderless.specs.Choice.{choice_in};
-ghost use Rattle.orderless.specs.End.{share_cOf, share_nu_of, level_in, objective_in};
+ghost use Rattle.orderless.specs.End.{share_c_of, share_nu_of, level_in, objective_in};
 ghost use Rattle.orderless.specs.Run.{spread, raised_to, opened_to, Course, course, passes, goes_on, orderless};
 ghost use Rattle.orderless.specs.Sheet.{read_in, ceilings_of, alpha_of};
-ghost use Rattle.orderless.specs.Step.{slope as slopeIn};
+ghost use Rattle.orderless.specs.Step.{slope as slope_in};
 ghost use Rattle.sheet.specs.Ready.{SheetReady, Diagonal, Fitting};
 
 use extreme::Choice;
@@ -165,8 +165,8 @@ pub fn train(
 
 fn share_c(f: &[f64], y: &[u8], m: &[u8], g: Given, cpos: f64, cneg: f64) -> Share
     requires { SheetReady g m.now y.now f.now }
-    ensures { (result ≡ share_cOf y.now (alpha_of y.now (ceilings_of cpos cneg) (read_in g.nu g.n f.now))
-        (slopeIn g m.now y.now (ceilings_of cpos cneg) (read_in g.nu g.n f.now)) g.n) × (result.free ≤ 512) }
+    ensures { (result ≡ share_c_of y.now (alpha_of y.now (ceilings_of cpos cneg) (read_in g.nu g.n f.now))
+        (slope_in g m.now y.now (ceilings_of cpos cneg) (read_in g.nu g.n f.now)) g.n) × (result.free ≤ 512) }
 {
     let n = g.n;
     let mut s = Share {
@@ -201,7 +201,7 @@ fn share_nu(
 ) -> Share
     requires { SheetReady g m.now y.now f.now }
     ensures { (result ≡ share_nu_of y.now (alpha_of y.now (ceilings_of cpos cneg) (read_in g.nu g.n f.now))
-        (slopeIn g m.now y.now (ceilings_of cpos cneg) (read_in g.nu g.n f.now)) x label g.n) × (result.free ≤ 512) }
+        (slope_in g m.now y.now (ceilings_of cpos cneg) (read_in g.nu g.n f.now)) x label g.n) × (result.free ≤ 512) }
 {
     let n = g.n;
     let mut s = Share {

@@ -4,7 +4,7 @@
 ghost use Rattle.std.specs.Prelude.{◌≡◌, Bool, false, ℕ, ◌*◌, ◌≤◌, length};
 ghost use Rattle.alpha.specs.Weight.{minus_one};
 ghost use Rattle.answer.specs.Lent.{lent, Whole, whole};
-ghost use Rattle.classification.specs.Entries.{given_by, fitted, fit_cTuned_sized, fit_cTuned, fit_cOf};
+ghost use Rattle.classification.specs.Entries.{given_by, fitted, fit_c_tuned_sized, fit_c_tuned, fit_c_of};
 ghost use Rattle.fits.specs.Starts.{nothing, evenly, costs_to};
 ghost use Rattle.judge.specs.Sizes.{Room};
 ghost use Rattle.kernel.specs.Matrix.{Matrix};
@@ -62,7 +62,7 @@ pub fn sized(
 ) -> Outcome
     requires { (Room n (length m.now) (length cr.old) (length h.old) (length f.old) (length u.old) (length y.old)) × (n ≤ length l.now) }
     ensures { ◌≡◌ {A = Whole} (whole result cr.new h.new f.new u.new y.new)
-        (fit_cTuned_sized t n m.now l.now cpos cneg eps shrinking budget (lent cr.old h.old f.old u.old y.old)) }
+        (fit_c_tuned_sized t n m.now l.now cpos cneg eps shrinking budget (lent cr.old h.old f.old u.old y.old)) }
 {
     let j10 = verdict::c_judged(n, m, l, cpos, cneg, eps, budget);
     let j = judge::floor_judged(j10, t.floor);
@@ -92,7 +92,7 @@ pub fn fit_c_tuned(
     y: &mut [u8],
 ) -> Outcome
     ensures { ◌≡◌ {A = Whole} (whole result cr.new h.new f.new u.new y.new)
-        (fit_cTuned t n m.now l.now cpos cneg eps shrinking budget (lent cr.old h.old f.old u.old y.old)) }
+        (fit_c_tuned t n m.now l.now cpos cneg eps shrinking budget (lent cr.old h.old f.old u.old y.old)) }
 {
     let inputs = l.len() == n;
     let s = judge::sized(
@@ -130,7 +130,7 @@ pub fn fit_c(
     y: &mut [u8],
 ) -> Outcome
     ensures { ◌≡◌ {A = Whole} (whole result cr.new h.new f.new u.new y.new)
-        (fit_cOf n m.now l.now cpos cneg eps shrinking budget (lent cr.old h.old f.old u.old y.old)) }
+        (fit_c_of n m.now l.now cpos cneg eps shrinking budget (lent cr.old h.old f.old u.old y.old)) }
 {
     let t = tuning::plain();
     fit_c_tuned(

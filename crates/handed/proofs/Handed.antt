@@ -19,7 +19,7 @@ use Rattle.answer.specs.declared.Answer.{Answer}
 use Rattle.answer.specs.declared.Outcome.{Outcome}
 use Rattle.answer.specs.declared.Outcome.TheVariants.{Accepted, Refused}
 use Rattle.boxed.specs.Range.{In}
-use Rattle.classification.specs.Entries.{fitted, decided, entered, general_tuned_sized, fit_cTuned_sized, fit_cTuned, fit_nu_tuned_sized, fit_nu_tuned, fit_one_class_tuned_sized, fit_one_class_tuned}
+use Rattle.classification.specs.Entries.{fitted, decided, entered, general_tuned_sized, fit_c_tuned_sized, fit_c_tuned, fit_nu_tuned_sized, fit_nu_tuned, fit_one_class_tuned_sized, fit_one_class_tuned}
 use Rattle.classification.proofs.Laws.{Usable, usable_general, usable_c, usable_nu, usable_one_class}
 use Rattle.extreme.specs.declared.Choice.TheVariants.{Pair}
 use Rattle.hosted.specs.Hosted.{is_on, as_float, byte_sizes, general_inputs, decoded_to, floats_of, stored_to, room, Handed, handed, delivered_by, delivered, turned_away, hosted_by, fresh_places, fresh_floats, fresh_numbers, fresh_bytes, answered_by}
@@ -210,10 +210,10 @@ module _ (tune : Tuning) (n : ℕ) (m l : List ℕ) (cpos cneg eps shrinking bud
   c_k = c_trains tune n l cpos cneg eps shrinking
 
   abbrev c_w : Whole
-  c_w = fit_cTuned_sized tune n m l (as_float cpos) (as_float cneg) (as_float eps) (is_on shrinking) budget room
+  c_w = fit_c_tuned_sized tune n m l (as_float cpos) (as_float cneg) (as_float eps) (is_on shrinking) budget room
 
   pub c_ran : (byte_sizes n (eqb (length l) n) m cr h an ≡ 0) × (floor_judged tune.floor (c_judged n m l (as_float cpos) (as_float cneg) (as_float eps) budget) ≡ Fine) × Ran (c_trains tune n l cpos cneg eps shrinking) m cr h an budget c_w (c_host_by tune n m l cpos cneg eps shrinking budget cr h an)
-  unfolding c_host_by fit_cTuned_sized
+  unfolding c_host_by fit_c_tuned_sized
   c_ran =
       ran c_k m cr h an budget (byte_sizes n (eqb (length l) n) m cr h an) (floor_judged tune.floor (c_judged n m l (as_float cpos) (as_float cneg) (as_float eps) budget)) refl
       (serves n (eqb (length l) n) (length m) (length cr) (length h) (length an))
@@ -231,9 +231,9 @@ module _ (tune : Tuning) (n : ℕ) (m l : List ℕ) (cpos cneg eps shrinking bud
       r.out.answer r.out.accepted)
 
   -- the entry accepts, so all that is promised of it holds; and its answer is what is written
-  pub c_called : (x : Answer) × ((fit_cTuned tune n m l (as_float cpos) (as_float cneg) (as_float eps) (is_on shrinking) budget room).out ≡ Accepted x)
+  pub c_called : (x : Answer) × ((fit_c_tuned tune n m l (as_float cpos) (as_float cneg) (as_float eps) (is_on shrinking) budget room).out ≡ Accepted x)
       × ((c_host_by tune n m l cpos cneg eps shrinking budget cr h an).answer ≡ answered_by (Accepted x) an)
-  unfolding fit_cTuned
+  unfolding fit_c_tuned
   c_called =
       let r = c_ran in
       let i = inputs_right n (eqb (length l) n) (length m) (length cr) (length h) (length an) r.0 in

@@ -14,7 +14,7 @@ use Rattle.rho.specs.declared.Share.{Share}
 use Rattle.solver.specs.End.{sum_to, objective_of}
 use Rattle.solver.specs.declared.Given.{Given}
 use Rattle.state.specs.Fields.{alpha_in}
-use Rattle.orderless.specs.End.{share_cOf, share_nu_of, level_for, sum_of, level_in, objective_in}
+use Rattle.orderless.specs.End.{share_c_of, share_nu_of, level_for, sum_of, level_in, objective_in}
 use Rattle.orderless.specs.Sheet.{Sheet, alpha_of}
 use Rattle.orderless.specs.Step.{slope}
 use Rattle.orderless.proofs.Relation.{Lent, Mirrors}
@@ -22,8 +22,8 @@ use Rattle.orderless.proofs.Stepped.{alpha_is, slope_is}
 
 module _ (n : ℕ) (f : List Float) (y : List ℕ) (w : ℕ → Alpha) (v : ℕ → Float)
     (weights : (k : ℕ) → k < n → alpha_in n f k ≡ w k) (slopes : (k : ℕ) → k < n → get_or f k nan ≡ v k) where
-  share_c_law : (a : ℕ) → a ≤ n → share_c n f y a ≡ share_cOf y w v a
-  unfolding share_c share_cOf
+  share_c_law : (a : ℕ) → a ≤ n → share_c n f y a ≡ share_c_of y w v a
+  unfolding share_c share_c_of
   share_c_law zero l = refl
   share_c_law (suc a) l = rw (weights a (omega arith), slopes a (omega arith), share_c_law a (omega arith))
 

@@ -1,7 +1,7 @@
 -- The training asks for labels of samples alone: two lists that agree there give the same. Assumes nothing.
 --
 -- Main theorems:
---   orderless-alike: the same run; `level-alike`: the same rho and companion; `objective-alike`: the same objective
+--   orderless_alike: the same run; `level_alike`: the same rho and companion; `objective_alike`: the same objective
 use Prim.Native.Nat.{ℕ, zero, suc, ◌+◌, ◌≤◌, ◌<◌}
 use mathlib.Core.Bool.{Bool, true, false, cond}
 use mathlib.Core.List.{List}
@@ -27,7 +27,7 @@ use Rattle.rho.specs.declared.Share.{Share}
 use Rattle.solver.specs.declared.Given.{Given}
 use Rattle.update.specs.declared.Pair.{Pair as Weights}
 use Rattle.orderless.specs.Choice.{lowest, highest, stops, rising, gain_by, partner, choice_in}
-use Rattle.orderless.specs.End.{share_cOf, share_nu_of, level_for, sum_of, level_in, objective_in}
+use Rattle.orderless.specs.End.{share_c_of, share_nu_of, level_for, sum_of, level_in, objective_in}
 use Rattle.orderless.specs.Run.{spread, brought_to, opened_to, opened, Course, course, passes, goes_on, orderless}
 use Rattle.orderless.specs.Sheet.{Sheet, read_in, sought, alpha_of, own}
 use Rattle.orderless.specs.Step.{shift_in, slope, pair_for, change, steps_by, steps}
@@ -189,8 +189,8 @@ module _ (g : Given) (m y z : List ℕ) (top : Bool → Float) (E : (k : ℕ) �
   -- ---- the end
 
   module _ (o : Sheet) where
-    share_c_alike : (a : ℕ) → a ≤ g.n → share_cOf y (alpha_of y top o) (slope g m y top o) a ≡ share_cOf z (alpha_of z top o) (slope g m z top o) a
-    unfolding share_cOf
+    share_c_alike : (a : ℕ) → a ≤ g.n → share_c_of y (alpha_of y top o) (slope g m y top o) a ≡ share_c_of z (alpha_of z top o) (slope g m z top o) a
+    unfolding share_c_of
     share_c_alike zero h = refl
     share_c_alike (suc a) h = rw (share_c_alike a (omega arith), pos a (omega arith))
 

@@ -13,9 +13,9 @@ use Rattle.orderless.specs.Sheet.{Sheet, alpha_of}
 use Rattle.orderless.specs.Step.{slope}
 
 module _ (y : List ℕ) (w : ℕ → Alpha) (v : ℕ → Float) where
-  unfoldable pub share_cOf : ℕ → Share
-  share_cOf zero = no_share
-  share_cOf (suc k) = share_with_c (positive_in y k) (w k) (signed (positive_in y k) (v k)) (share_cOf k)
+  unfoldable pub share_c_of : ℕ → Share
+  share_c_of zero = no_share
+  share_c_of (suc k) = share_with_c (positive_in y k) (w k) (signed (positive_in y k) (v k)) (share_c_of k)
 
   -- of the samples of one label, 1 or 0
   unfoldable pub share_nu_of : Bool → ℕ → ℕ → Share
@@ -23,7 +23,7 @@ module _ (y : List ℕ) (w : ℕ → Alpha) (v : ℕ → Float) where
   share_nu_of x label (suc k) = joined_nu x (eqb (get_or y k 0) label) (w k) (v k) (share_nu_of x label k)
 
   unfoldable pub level_for : Bool → Bool → ℕ → Level
-  level_for nu x n = cond nu (level_of (middle (share_nu_of x 1 n)) (middle (share_nu_of x 0 n))) (record { rho = middle (share_cOf n); r = of_bits binary64 0 })
+  level_for nu x n = cond nu (level_of (middle (share_nu_of x 1 n)) (middle (share_nu_of x 0 n))) (record { rho = middle (share_c_of n); r = of_bits binary64 0 })
 
 -- the sum of weight·(gradient + linear term), in order
 unfoldable pub sum_of : (ℕ → Float) → (ℕ → Float) → (ℕ → Float) → ℕ → Float

@@ -1,5 +1,5 @@
--- The choice of a pair is the one of the rule's words (specs/Rule.antt), whoever holds the rises and whoever stands: `second-words`, `choice-pair`,
--- `choice-optimal`, `sum_is`. Assumes nothing.
+-- The choice of a pair is the one of the rule's words (specs/Rule.antt), whoever holds the rises and whoever stands: `second_words`, `choice_pair`,
+-- `choice_optimal`, `sum_is`. Assumes nothing.
 use Prim.Native.Nat.{ℕ}
 use mathlib.Core.Bool.{Bool, true, false, ◌&&◌, cond, true≢false}
 use mathlib.Core.Logic.{◌⊎◌, inl, inr, ◌↔◌}

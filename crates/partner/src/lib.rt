@@ -3,7 +3,7 @@
 #![tactic(auto)]
 
 ghost use Rattle.std.specs.Prelude.{cond, ◌≡◌, ◌+◌, ◌*◌, ◌≤◌, ◌<◌, eqb, length, get_or};
-ghost use Rattle.extreme.specs.Best.{Below, nobody as nobodyAt};
+ghost use Rattle.extreme.specs.Best.{Below, nobody as nobody_at};
 ghost use Rattle.kernel.specs.Row.{Indexed};
 ghost use Rattle.state.specs.Lists.{problem, state, Ready};
 ghost use Rattle.partner.specs.Sides.{rises_of, falls_of, rise_of, fall_of};
@@ -114,7 +114,7 @@ fn own(pos: bool, p: Lead, q: Lead) -> Lead
 }
 
 fn nobody(v: f64) -> Extreme
-    ensures { result ≡ nobodyAt v }
+    ensures { result ≡ nobody_at v }
 {
     Extreme {
         value: v,

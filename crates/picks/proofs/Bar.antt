@@ -1,7 +1,7 @@
 -- Who stays below the bar isn't taken: no quotient need be formed to see it. Assumes nothing.
 --
 -- Main theorems:
---   below-best: a quotient t / q is below b where t is below the product q·p, both as rounded, and p is below b
+--   below_best: a quotient t / q is below b where t is below the product q·p, both as rounded, and p is below b
 --   passed: a sample that doesn't reach the bar leaves the race as it is
 use Prim.Native.Nat.{ℕ, zero, suc, ◌+◌, ◌-◌, ◌*◌, ◌^◌, ◌≤◌, ◌<◌}
 use mathlib.Core.Bool.{Bool, true, false, not, ◌&&◌, cond, true≢false}

@@ -11,7 +11,7 @@ ghost use Rattle.extreme.specs.Racing.{below, found_in, race_of};
 ghost use Rattle.floats.specs.Helpers.{max_of};
 ghost use Rattle.orderless.specs.Choice as Sheets;
 ghost use Rattle.orderless.specs.Sheet.{read_in, sought};
-ghost use Rattle.partner.specs.Second.{place_of, paired as pairedOf};
+ghost use Rattle.partner.specs.Second.{place_of, paired as paired_of};
 ghost use Rattle.kernel.specs.Matrix.{Matrix};
 ghost use Rattle.picks.specs.Follow.{deepest, first_of, by_label, raced_by, raced_from, bar_of, reaches_of, stirred_to};
 ghost use Rattle.sheet.specs.Ready.{SheetReady, Diagonal, Fitting};
@@ -269,7 +269,7 @@ fn partner(f: &[f64], y: &[u8], m: &[u8], g: Given, p: First, q: First) -> usize
 
 // The pair of i and j, where i is a sample.
 fn paired(n: usize, i: usize, j: usize) -> Choice
-    ensures { result ≡ pairedOf (found_in n i) j }
+    ensures { result ≡ paired_of (found_in n i) j }
 {
     if i < n {
         return Choice::Pair(i, j);

@@ -11,7 +11,7 @@ use Rattle.answer.specs.Lent.{Lent, Whole}
 use Rattle.answer.specs.Solved as Solved
 use Rattle.answer.specs.declared.Answer.{Answer}
 use Rattle.answer.specs.declared.Outcome.TheVariants.{Accepted}
-use Rattle.classification.specs.Entries.{general_tuned, fit_cTuned, fit_nu_tuned, fit_one_class_tuned}
+use Rattle.classification.specs.Entries.{general_tuned, fit_c_tuned, fit_nu_tuned, fit_one_class_tuned}
 use Rattle.fits.proofs.Loaded.{length_numbers, sample_loaded}
 use Rattle.readings.specs.Order.{crate_reading, home_reading, weight_in, Perm}
 use Rattle.readings.proofs.Order.{length_gathered, crate_at, home_at}
@@ -76,8 +76,8 @@ module _ (tune : Tuning) (n : ℕ) (m l : List ℕ) (c a p : List Float) (nurule
       → get_or (general_tuned tune n m l c a p nurule eps false budget d).left.crate s nan ≡ get_or (general_tuned tune n m l c a p nurule eps false budget d).left.home s nan
   general_alike = served_alike (general_served tune n m l c a p nurule eps false budget d x e) x e refl
 
-module _ (tune : Tuning) (n : ℕ) (m l : List ℕ) (cpos cneg eps : Float) (budget : ℕ) (d : Lent) (x : Answer) (e : (fit_cTuned tune n m l cpos cneg eps false budget d).out ≡ Accepted x) where
-  pub c_alike : (s : ℕ) → s < n → get_or (fit_cTuned tune n m l cpos cneg eps false budget d).left.crate s nan ≡ get_or (fit_cTuned tune n m l cpos cneg eps false budget d).left.home s nan
+module _ (tune : Tuning) (n : ℕ) (m l : List ℕ) (cpos cneg eps : Float) (budget : ℕ) (d : Lent) (x : Answer) (e : (fit_c_tuned tune n m l cpos cneg eps false budget d).out ≡ Accepted x) where
+  pub c_alike : (s : ℕ) → s < n → get_or (fit_c_tuned tune n m l cpos cneg eps false budget d).left.crate s nan ≡ get_or (fit_c_tuned tune n m l cpos cneg eps false budget d).left.home s nan
   c_alike = served_alike (c_served tune n m l cpos cneg eps false budget d x e) x e refl
 
 module _ (tune : Tuning) (n : ℕ) (m l : List ℕ) (nu eps : Float) (budget : ℕ) (d : Lent) (x : Answer) (e : (fit_nu_tuned tune n m l nu eps false budget d).out ≡ Accepted x) where

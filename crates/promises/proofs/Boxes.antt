@@ -15,7 +15,7 @@ use Rattle.answer.specs.Lent.{Lent}
 use Rattle.answer.specs.declared.Answer.{Answer}
 use Rattle.answer.specs.declared.Outcome.TheVariants.{Accepted}
 use Rattle.boxed.specs.Range.{Ceiling, In}
-use Rattle.classification.specs.Entries.{general_tuned, fit_cTuned, fit_nu_tuned, fit_one_class_tuned}
+use Rattle.classification.specs.Entries.{general_tuned, fit_c_tuned, fit_nu_tuned, fit_one_class_tuned}
 use Rattle.extreme.specs.declared.Choice.TheVariants.{Pair}
 use Rattle.fits.specs.Starts.{nothing, half, shared_to, one_class_to}
 use Rattle.fits.proofs.Starts.{nothing_at, evenly_at, positive_at, cost_at}
@@ -86,7 +86,7 @@ pub nought_in : (b : Float) → Ceiling b → In b Weight.zero
 unfolding of_bits is_nan
 nought_in b h = weight_in_law b Weight.zero (of_bits-fits binary64 0) (le_refl Weight.zero tt) h.low
 
-module _ (tune : Tuning) (n : ℕ) (m l : List ℕ) (cost eps : Float) (shrinking : Bool) (budget : ℕ) (d : Lent) (x : Answer) (e : (fit_cTuned tune n m l cost cost eps shrinking budget d).out ≡ Accepted x)
+module _ (tune : Tuning) (n : ℕ) (m l : List ℕ) (cost eps : Float) (shrinking : Bool) (budget : ℕ) (d : Lent) (x : Answer) (e : (fit_c_tuned tune n m l cost cost eps shrinking budget d).out ≡ Accepted x)
     (fit : T (fits binary64 cost)) where
   c_common : Common (c_fit tune n l cost cost eps shrinking) m cost
   c_common =

@@ -10,7 +10,7 @@ use Rattle.alpha.specs.Weight.{minus_one}
 use Rattle.answer.specs.Lent.{Lent, Whole}
 use Rattle.answer.specs.declared.Answer.{Answer}
 use Rattle.answer.specs.declared.Outcome.TheVariants.{Accepted}
-use Rattle.classification.specs.Entries.{sizes_of, fitted, general_tuned_sized, general_tuned, fit_cTuned_sized, fit_cTuned, fit_nu_tuned_sized, fit_nu_tuned, fit_one_class_tuned_sized, fit_one_class_tuned}
+use Rattle.classification.specs.Entries.{sizes_of, fitted, general_tuned_sized, general_tuned, fit_c_tuned_sized, fit_c_tuned, fit_nu_tuned_sized, fit_nu_tuned, fit_one_class_tuned_sized, fit_one_class_tuned}
 use Rattle.classification.proofs.Laws.{usable_general, usable_c, usable_nu, usable_one_class}
 use Rattle.fits.specs.Starts.{nothing, evenly, all_positive, cost_of}
 use Rattle.fits.proofs.Starts.{cost_at}
@@ -74,16 +74,16 @@ module _ (tune : Tuning) (n : ℕ) (m l : List ℕ) (c a p : List Float) (nurule
 
 -- ---- C
 
-module _ (tune : Tuning) (n : ℕ) (m l : List ℕ) (cpos cneg eps : Float) (shrinking : Bool) (budget : ℕ) (d : Lent) (x : Answer) (e : (fit_cTuned tune n m l cpos cneg eps shrinking budget d).out ≡ Accepted x) where
+module _ (tune : Tuning) (n : ℕ) (m l : List ℕ) (cpos cneg eps : Float) (shrinking : Bool) (budget : ℕ) (d : Lent) (x : Answer) (e : (fit_c_tuned tune n m l cpos cneg eps shrinking budget d).out ≡ Accepted x) where
   abbrev c_k : Fit
   c_k = c_fit tune n l cpos cneg eps shrinking
 
-  c_entered : (sizes_of n (eqb (length l) n) m d ≡ 0) × (fit_cTuned tune n m l cpos cneg eps shrinking budget d ≡ fit_cTuned_sized tune n m l cpos cneg eps shrinking budget d)
-  unfolding fit_cTuned
-  c_entered = entered_in (fit_cTuned_sized tune n m l cpos cneg eps shrinking budget d) d x (sizes_of n (eqb (length l) n) m d) e
+  c_entered : (sizes_of n (eqb (length l) n) m d ≡ 0) × (fit_c_tuned tune n m l cpos cneg eps shrinking budget d ≡ fit_c_tuned_sized tune n m l cpos cneg eps shrinking budget d)
+  unfolding fit_c_tuned
+  c_entered = entered_in (fit_c_tuned_sized tune n m l cpos cneg eps shrinking budget d) d x (sizes_of n (eqb (length l) n) m d) e
 
-  c_decided : (floor_judged tune.floor (c_judged n m l cpos cneg eps budget) ≡ Fine) × (fit_cTuned_sized tune n m l cpos cneg eps shrinking budget d ≡ fitted_to c_k m budget d)
-  unfolding fit_cTuned_sized
+  c_decided : (floor_judged tune.floor (c_judged n m l cpos cneg eps budget) ≡ Fine) × (fit_c_tuned_sized tune n m l cpos cneg eps shrinking budget d ≡ fitted_to c_k m budget d)
+  unfolding fit_c_tuned_sized
   c_decided = decided_in (fitted_to c_k m budget d) d x (floor_judged tune.floor (c_judged n m l cpos cneg eps budget)) (out_of x _ _ c_entered.1 e)
 
   -- no refusal from 3 to 10, and not 14
@@ -93,13 +93,13 @@ module _ (tune : Tuning) (n : ℕ) (m l : List ℕ) (cpos cneg eps : Float) (shr
   pub c_floored : floor_good tune.floor ≡ true
   c_floored = (floor_fine tune.floor (c_judged n m l cpos cneg eps budget) c_decided.0).1
 
-  pub c_served : Served (c_fit tune n l cpos cneg eps shrinking) m budget d (fit_cTuned tune n m l cpos cneg eps shrinking budget d)
+  pub c_served : Served (c_fit tune n l cpos cneg eps shrinking) m budget d (fit_c_tuned tune n m l cpos cneg eps shrinking budget d)
   c_served =
       let r = room_of n (eqb (length l) n) (length m) (length d.crate) (length d.home) (length d.floats) (length d.numbers) (length d.bytes) c_entered.0 in
       record { square = refl; room = r; usable = usable_c n m budget r.most r.matrix l cpos cneg eps c_judged_law; same = c_entered.1 ∙ c_decided.1 }
 
   -- what home answers for sample s
-  pub c_home : (s : ℕ) → s < n → get_or (fit_cTuned tune n m l cpos cneg eps shrinking budget d).left.home s nan ≡ own_weight (c_fit tune n l cpos cneg eps shrinking) m d budget s
+  pub c_home : (s : ℕ) → s < n → get_or (fit_c_tuned tune n m l cpos cneg eps shrinking budget d).left.home s nan ≡ own_weight (c_fit tune n l cpos cneg eps shrinking) m d budget s
   c_home = served_home c_served x e
 
   -- after each number of passes

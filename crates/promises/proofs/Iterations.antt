@@ -10,7 +10,7 @@ use Rattle.answer.specs.Solved.{stuck, settled_by, solved}
 use Rattle.answer.specs.declared.Answer.{Answer}
 use Rattle.answer.specs.declared.Finish.{Finish}
 use Rattle.answer.specs.declared.Outcome.TheVariants.{Accepted}
-use Rattle.classification.specs.Entries.{fitted, general_tuned, fit_cTuned, fit_nu_tuned, fit_one_class_tuned}
+use Rattle.classification.specs.Entries.{fitted, general_tuned, fit_c_tuned, fit_nu_tuned, fit_one_class_tuned}
 use Rattle.classification.proofs.Accepts.{refused_apart}
 use Rattle.solver.specs.Run.{Full}
 use Rattle.solver.specs.declared.Given.{Given}
@@ -40,7 +40,7 @@ pub general_iterations : (tune : Tuning) (n : ℕ) (m l : List ℕ) (c a p : Lis
     → (general_tuned tune n m l c a p nurule eps shrinking budget d).out ≡ Accepted x → Counts (general_fit tune n l c a p nurule eps shrinking) m d budget x.iterations
 general_iterations tune n m l c a p nurule eps shrinking budget d x e = served_iterations (general_served tune n m l c a p nurule eps shrinking budget d x e) x e
 
-pub c_iterations : (tune : Tuning) (n : ℕ) (m l : List ℕ) (cpos cneg eps : Float) (shrinking : Bool) (budget : ℕ) (d : Lent) (x : Answer) → (fit_cTuned tune n m l cpos cneg eps shrinking budget d).out ≡ Accepted x
+pub c_iterations : (tune : Tuning) (n : ℕ) (m l : List ℕ) (cpos cneg eps : Float) (shrinking : Bool) (budget : ℕ) (d : Lent) (x : Answer) → (fit_c_tuned tune n m l cpos cneg eps shrinking budget d).out ≡ Accepted x
     → Counts (c_fit tune n l cpos cneg eps shrinking) m d budget x.iterations
 c_iterations tune n m l cpos cneg eps shrinking budget d x e = served_iterations (c_served tune n m l cpos cneg eps shrinking budget d x e) x e
 

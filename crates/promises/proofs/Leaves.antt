@@ -16,7 +16,7 @@ use Rattle.answer.specs.Solved as Solved
 use Rattle.answer.specs.Solved.{Read, stuck, level_at, settled_by, closed_with, solved}
 use Rattle.answer.specs.declared.Finish.{Finish}
 use Rattle.answer.specs.declared.Outcome.TheVariants.{Refused}
-use Rattle.classification.specs.Entries.{given_by, scratch_of, fitted, decided, entered, sizes_of, general_tuned_sized, general_tuned, fit_cTuned_sized, fit_cTuned, fit_nu_tuned_sized, fit_nu_tuned, fit_one_class_tuned_sized, fit_one_class_tuned}
+use Rattle.classification.specs.Entries.{given_by, scratch_of, fitted, decided, entered, sizes_of, general_tuned_sized, general_tuned, fit_c_tuned_sized, fit_c_tuned, fit_nu_tuned_sized, fit_nu_tuned, fit_one_class_tuned_sized, fit_one_class_tuned}
 use Rattle.classification.proofs.Accepts.{refused_apart}
 use Rattle.classification.proofs.Laws.{usable_general, usable_c, usable_nu, usable_one_class}
 use Rattle.fits.specs.Load.{loaded}
@@ -169,8 +169,8 @@ module _ (tune : Tuning) (n : ℕ) (m l : List ℕ) (c a p : List Float) (nurule
       (λ r f. served_leaves {k = general_fit tune n l c a p nurule eps shrinking} (record { square = refl; room = r; usable = usable_general n m budget r.most r.matrix l c a p eps (floor_fine tune.floor _ f).0; same = refl }))
 
 module _ (tune : Tuning) (n : ℕ) (m l : List ℕ) (cpos cneg eps : Float) (shrinking : Bool) (budget : ℕ) (d : Lent) where
-  pub c_leaves : Leaves n d (fit_cTuned tune n m l cpos cneg eps shrinking budget d)
-  unfolding fit_cTuned fit_cTuned_sized decided
+  pub c_leaves : Leaves n d (fit_c_tuned tune n m l cpos cneg eps shrinking budget d)
+  unfolding fit_c_tuned fit_c_tuned_sized decided
   c_leaves =
       entry_leaves n (eqb (length l) n) m (floor_judged tune.floor (c_judged n m l cpos cneg eps budget)) _ d
       (λ q i e. not_eleven tune.floor q (c_sized_number tune n m l cpos cneg eps false budget d q i (rw e)))

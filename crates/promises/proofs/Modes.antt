@@ -16,7 +16,7 @@ use Rattle.answer.specs.Solved.{level_at, home_of, crate_of, settled_by, settled
 use Rattle.answer.specs.declared.Finish.{Finish}
 use Rattle.answer.specs.declared.Finish.TheVariants.{Plain, Signed, Scaled}
 use Rattle.answer.specs.declared.Outcome.TheVariants.{Refused}
-use Rattle.classification.specs.Entries.{given_by, scratch_of, sizes_of, entered, decided, fitted, general_tuned, general_tuned_sized, fit_cTuned, fit_cTuned_sized, fit_nu_tuned, fit_nu_tuned_sized, fit_one_class_tuned, fit_one_class_tuned_sized}
+use Rattle.classification.specs.Entries.{given_by, scratch_of, sizes_of, entered, decided, fitted, general_tuned, general_tuned_sized, fit_c_tuned, fit_c_tuned_sized, fit_nu_tuned, fit_nu_tuned_sized, fit_one_class_tuned, fit_one_class_tuned_sized}
 use Rattle.fits.specs.Load.{loaded}
 use Rattle.fits.specs.Starts.{nothing, evenly, all_positive, cost_of, costs_to, half, shared_to, one_class_to}
 use Rattle.fits.proofs.Loaded.{ceiling_loaded, length_floats}
@@ -95,8 +95,8 @@ module _ (x : Float) (n : ℕ) (m l : List ℕ) (eps : Float) (shrinking : Bool)
         (elim h [ inl e ↦ fitted_common g Plain m l c a p budget d room b e | inr e ↦ fitted_off g Plain m l c a p budget d room e ])
 
     pub c_sized_modes : (cpos cneg : Float) → (cpos ≡ cneg) ⊎ (shrinking ≡ false)
-        → fit_cTuned_sized (tuned x Travelling) n m l cpos cneg eps shrinking budget d ≡ fit_cTuned_sized (tuned x Crate) n m l cpos cneg eps shrinking budget d
-    unfolding fit_cTuned_sized
+        → fit_c_tuned_sized (tuned x Travelling) n m l cpos cneg eps shrinking budget d ≡ fit_c_tuned_sized (tuned x Crate) n m l cpos cneg eps shrinking budget d
+    unfolding fit_c_tuned_sized
     c_sized_modes cpos cneg h =
         let g = given_by (tuned x Crate) n TwoClass eps shrinking false in
         let c = costs_to cpos cneg l nothing n in
@@ -131,8 +131,8 @@ module _ (x : Float) (n : ℕ) (m l : List ℕ) (eps : Float) (shrinking : Bool)
       (λ z. let r = room_in n _ m d z in general_sized_modes r.floats r.most c a p nurule b h)
 
   pub c_modes : (cpos cneg : Float) → (cpos ≡ cneg) ⊎ (shrinking ≡ false)
-      → fit_cTuned (tuned x Travelling) n m l cpos cneg eps shrinking budget d ≡ fit_cTuned (tuned x Crate) n m l cpos cneg eps shrinking budget d
-  unfolding fit_cTuned
+      → fit_c_tuned (tuned x Travelling) n m l cpos cneg eps shrinking budget d ≡ fit_c_tuned (tuned x Crate) n m l cpos cneg eps shrinking budget d
+  unfolding fit_c_tuned
   c_modes cpos cneg h = entered_by (sizes_of n (eqb (length l) n) m d) _ _ d (λ z. let r = room_in n _ m d z in c_sized_modes r.floats r.most cpos cneg h)
 
   pub nu_modes : (nu : Float) → fit_nu_tuned (tuned x Travelling) n m l nu eps shrinking budget d ≡ fit_nu_tuned (tuned x Crate) n m l nu eps shrinking budget d

@@ -20,7 +20,7 @@ use Rattle.answer.specs.declared.Finish.{Finish}
 use Rattle.answer.specs.declared.Finish.TheVariants.{Plain, Signed, Scaled}
 use Rattle.answer.specs.declared.Outcome.{Outcome}
 use Rattle.answer.specs.declared.Outcome.TheVariants.{Accepted, Refused}
-use Rattle.classification.specs.Entries.{given_by, fitted, decided, entered, sizes_of, general_tuned_sized, general_tuned, fit_cTuned_sized, fit_cTuned, fit_nu_tuned_sized, fit_nu_tuned, fit_one_class_tuned_sized, fit_one_class_tuned}
+use Rattle.classification.specs.Entries.{given_by, fitted, decided, entered, sizes_of, general_tuned_sized, general_tuned, fit_c_tuned_sized, fit_c_tuned, fit_nu_tuned_sized, fit_nu_tuned, fit_one_class_tuned_sized, fit_one_class_tuned}
 use Rattle.fits.specs.Starts.{nothing, evenly, all_positive, costs_to, half, shared_to, one_class_to}
 use Rattle.judge.specs.Judge.{first, need, and_then, entry_good, label_good, ceiling_good, cost_good, alpha_good, linear_good, eps_good, nu_good, budget_good, floor_good, bytes_good, floor_judged, samples_judged, general_judged, retired_judged, c_judged, nu_judged, one_class_judged}
 use Rattle.judge.specs.Sizes.{count_good, room_good, sizes}
@@ -314,22 +314,22 @@ module _ (tune : Tuning) (n : ℕ) (m l : List ℕ) (c a p : List Float) (r : Li
   retired_accepts = accepted_by (retired_allowed tune.floor) _ (λ z. unfold or_floor in true≢false (sym z)) retired_entry_so
 
 module _ (tune : Tuning) (n : ℕ) (m l : List ℕ) (cpos cneg eps : Float) (shrinking : Bool) (budget : ℕ) (d : Lent) where
-  c_sized_so : numbered (allowed tune.floor shrinking) (fit_cTuned_sized tune n m l cpos cneg eps shrinking budget d).out ≡ true
-  unfolding fit_cTuned_sized
+  c_sized_so : numbered (allowed tune.floor shrinking) (fit_c_tuned_sized tune n m l cpos cneg eps shrinking budget d).out ≡ true
+  unfolding fit_c_tuned_sized
   c_sized_so = decided_so (allowed tune.floor shrinking) (ten_allowed tune.floor shrinking) _ (fitted (given_by tune n TwoClass eps shrinking false) Signed m l (costs_to cpos cneg l nothing n) nothing (evenly minus_one n) budget d) d (floor_so (allowed tune.floor shrinking) (ten_allowed tune.floor shrinking) tune.floor (fourteen tune.floor (listed shrinking)) _ (c_so (allowed tune.floor shrinking) (ten_allowed tune.floor shrinking 3 refl) (ten_allowed tune.floor shrinking 4 refl) (ten_allowed tune.floor shrinking 5 refl) (ten_allowed tune.floor shrinking 8 refl) (ten_allowed tune.floor shrinking 10 refl) n m l cpos cneg eps budget)) (fitted_so tune.floor (given_by tune n TwoClass eps shrinking false) Signed m l (costs_to cpos cneg l nothing n) nothing (evenly minus_one n) budget d)
 
-  c_entry_so : numbered (allowed tune.floor shrinking) (fit_cTuned tune n m l cpos cneg eps shrinking budget d).out ≡ true
-  unfolding fit_cTuned
-  c_entry_so = entered_so (allowed tune.floor shrinking) (ten_allowed tune.floor shrinking) n (eqb (length l) n) m (fit_cTuned_sized tune n m l cpos cneg eps shrinking budget d) d c_sized_so
+  c_entry_so : numbered (allowed tune.floor shrinking) (fit_c_tuned tune n m l cpos cneg eps shrinking budget d).out ≡ true
+  unfolding fit_c_tuned
+  c_entry_so = entered_so (allowed tune.floor shrinking) (ten_allowed tune.floor shrinking) n (eqb (length l) n) m (fit_c_tuned_sized tune n m l cpos cneg eps shrinking budget d) d c_sized_so
 
   -- without the sizes
-  pub c_sized_number : (number index : ℕ) → (fit_cTuned_sized tune n m l cpos cneg eps shrinking budget d).out ≡ Refused number index → Numbered tune.floor shrinking number
+  pub c_sized_number : (number index : ℕ) → (fit_c_tuned_sized tune n m l cpos cneg eps shrinking budget d).out ≡ Refused number index → Numbered tune.floor shrinking number
   c_sized_number = number_of tune.floor shrinking _ c_sized_so
 
-  pub c_number_law : (number index : ℕ) → (fit_cTuned tune n m l cpos cneg eps shrinking budget d).out ≡ Refused number index → Numbered tune.floor shrinking number
+  pub c_number_law : (number index : ℕ) → (fit_c_tuned tune n m l cpos cneg eps shrinking budget d).out ≡ Refused number index → Numbered tune.floor shrinking number
   c_number_law = number_of tune.floor shrinking _ c_entry_so
 
-  pub c_accepts : get_or (words_of (fit_cTuned tune n m l cpos cneg eps shrinking budget d).out) 0 0 ≡ 0 → (x : Answer) × ((fit_cTuned tune n m l cpos cneg eps shrinking budget d).out ≡ Accepted x)
+  pub c_accepts : get_or (words_of (fit_c_tuned tune n m l cpos cneg eps shrinking budget d).out) 0 0 ≡ 0 → (x : Answer) × ((fit_c_tuned tune n m l cpos cneg eps shrinking budget d).out ≡ Accepted x)
   c_accepts = accepted_by (allowed tune.floor shrinking) _ (none_listed tune.floor shrinking) c_entry_so
 
 module _ (tune : Tuning) (n : ℕ) (m l : List ℕ) (nu eps : Float) (shrinking : Bool) (budget : ℕ) (d : Lent) where

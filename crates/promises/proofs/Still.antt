@@ -1,12 +1,12 @@
 -- The promises of the entries without an order table, C, nu and one-class: each through what the rule's entry beside it answers with shrinking off. Assumes nothing.
 --
 -- Main theorems, of C; of nu and one-class the same:
---   still-c-accepts: what an acceptance says, of the call and of the rule's entry
---   still-c-home: each coefficient is made of the sample's start weight, or of what the last step of the rule's run that chose it left
+--   still_c_accepts: what an acceptance says, of the call and of the rule's entry
+--   still_c_home: each coefficient is made of the sample's start weight, or of what the last step of the rule's run that chose it left
 --   still-c-box, still-c-no-nan, still-c-home-box: with one common ceiling, the weights of that run and the one behind each coefficient
 --   still-c-iterations, still-c-threshold: what the answer's iterations and its reason say of that run
---   still-c-number: which number a refusal has, and when it is 13
---   still-c-leaves: what the lent lists hold in every outcome
+--   still_c_number: which number a refusal has, and when it is 13
+--   still_c_leaves: what the lent lists hold in every outcome
 use Prim.Native.Nat.{ℕ, ◌*◌, ◌<◌}
 use mathlib.Core.Bool.{Bool, true, false, not, ◌&&◌, cond, true≢false}
 use mathlib.Core.List.{List}
@@ -27,7 +27,7 @@ use Rattle.answer.specs.declared.Finish.{Finish}
 use Rattle.answer.specs.declared.Outcome.{Outcome}
 use Rattle.answer.specs.declared.Outcome.TheVariants.{Accepted, Refused}
 use Rattle.boxed.specs.Range.{In}
-use Rattle.classification.specs.Entries.{given_by, sizes_of, fit_cTuned, fit_nu_tuned, fit_one_class_tuned}
+use Rattle.classification.specs.Entries.{given_by, sizes_of, fit_c_tuned, fit_nu_tuned, fit_one_class_tuned}
 use Rattle.classification.proofs.Accepts.{refused_apart}
 use Rattle.extreme.specs.declared.Choice.TheVariants.{Pair}
 use Rattle.fits.specs.Starts.{nothing, half, shared_to, one_class_to}
@@ -41,7 +41,7 @@ use Rattle.orderless.proofs.Starts.{length_spread, spread_other}
 use Rattle.rounding.specs.Units.{NotNan}
 use Rattle.solver.specs.declared.Given.{Given}
 use Rattle.still.specs.Answered.{Reply, result_of, reply_of, fitted_still}
-use Rattle.still.specs.Entries.{StillLent, StillWhole, still_untouched, still_left, still_room_good, still_sizes_by, still_sizes, still_judged, still_decided, still_entered, still_cTuned_sized, still_cTuned, still_nu_tuned_sized, still_nu_tuned, still_one_class_tuned_sized, still_one_class_tuned}
+use Rattle.still.specs.Entries.{StillLent, StillWhole, still_untouched, still_left, still_room_good, still_sizes_by, still_sizes, still_judged, still_decided, still_entered, still_c_tuned_sized, still_c_tuned, still_nu_tuned_sized, still_nu_tuned, still_one_class_tuned_sized, still_one_class_tuned}
 use Rattle.still.specs.Fits.{still_c, still_nu, still_one_class}
 use Rattle.still.specs.Same.{Same}
 use Rattle.still.proofs.Same.{c_same, nu_same, one_class_same}
@@ -282,8 +282,8 @@ module _ {n : ℕ} {inputs : Bool} {m : List ℕ} {own : ℕ → Bool} {x : Floa
 -- ---- C
 
 module _ (tune : Tuning) (n : ℕ) (m l : List ℕ) (cpos cneg eps : Float) (budget : ℕ) (e : StillLent) where
-  c_entry : Entry n (eqb (length l) n) m c_number tune.floor (fit_cTuned tune n m l cpos cneg eps false budget) e (λ s. still_cTuned tune n m l cpos cneg eps s budget e)
-  unfolding still_cTuned still_cTuned_sized
+  c_entry : Entry n (eqb (length l) n) m c_number tune.floor (fit_c_tuned tune n m l cpos cneg eps false budget) e (λ s. still_c_tuned tune n m l cpos cneg eps s budget e)
+  unfolding still_c_tuned still_c_tuned_sized
   c_entry = record {
     reply = still_c (given_by tune n TwoClass eps false false) m l cpos cneg budget e.floats e.result;
     replies = still_replies _ _ _ _ _ _ _ budget e.floats e.result;
@@ -292,25 +292,25 @@ module _ (tune : Tuning) (n : ℕ) (m l : List ℕ) (cpos cneg eps : Float) (bud
   }
 
   -- which number a refusal has, by whether shrinking is asked for
-  pub still_c_number : StillNumbers c_number tune.floor (λ s. (still_cTuned tune n m l cpos cneg eps s budget e).out)
+  pub still_c_number : StillNumbers c_number tune.floor (λ s. (still_c_tuned tune n m l cpos cneg eps s budget e).out)
   still_c_number = any_number c_entry refl refl
 
   -- what the lent lists hold in every outcome
-  pub still_c_leaves : (shrinking : Bool) → StillLeaves n (eqb (length l) n) m (fit_cTuned tune n m l cpos cneg eps false budget) e (still_cTuned tune n m l cpos cneg eps shrinking budget e)
+  pub still_c_leaves : (shrinking : Bool) → StillLeaves n (eqb (length l) n) m (fit_c_tuned tune n m l cpos cneg eps false budget) e (still_c_tuned tune n m l cpos cneg eps shrinking budget e)
   still_c_leaves = any_leaves c_entry
 
   -- the rule's entry accepts with the same answer
-  pub still_c_accepts : (shrinking : Bool) (x : Answer) → (still_cTuned tune n m l cpos cneg eps shrinking budget e).out ≡ Accepted x → StillAccepts n (eqb (length l) n) m shrinking (fit_cTuned tune n m l cpos cneg eps false budget) e x
+  pub still_c_accepts : (shrinking : Bool) (x : Answer) → (still_c_tuned tune n m l cpos cneg eps shrinking budget e).out ≡ Accepted x → StillAccepts n (eqb (length l) n) m shrinking (fit_c_tuned tune n m l cpos cneg eps false budget) e x
   still_c_accepts = any_accepts c_entry
 
 -- d is lent to the rule's entry, and suffices
-module _ (tune : Tuning) (n : ℕ) (m l : List ℕ) (cpos cneg eps : Float) (shrinking : Bool) (budget : ℕ) (e : StillLent) (x : Answer) (h : (still_cTuned tune n m l cpos cneg eps shrinking budget e).out ≡ Accepted x)
+module _ (tune : Tuning) (n : ℕ) (m l : List ℕ) (cpos cneg eps : Float) (shrinking : Bool) (budget : ℕ) (e : StillLent) (x : Answer) (h : (still_c_tuned tune n m l cpos cneg eps shrinking budget e).out ≡ Accepted x)
     (d : Lent) (suffices : sizes_of n (eqb (length l) n) m d ≡ 0) where
-  c_beside : (fit_cTuned tune n m l cpos cneg eps false budget d).out ≡ Accepted x
+  c_beside : (fit_c_tuned tune n m l cpos cneg eps false budget d).out ≡ Accepted x
   c_beside = (still_c_accepts tune n m l cpos cneg eps budget e shrinking x h).beside d suffices
 
   -- what the result holds for sample s
-  pub still_c_home : (s : ℕ) → s < n → get_or (still_cTuned tune n m l cpos cneg eps shrinking budget e).left.result s nan ≡ own_weight (c_fit tune n l cpos cneg eps false) m d budget s
+  pub still_c_home : (s : ℕ) → s < n → get_or (still_c_tuned tune n m l cpos cneg eps shrinking budget e).left.result s nan ≡ own_weight (c_fit tune n l cpos cneg eps false) m d budget s
   still_c_home s b = (still_c_leaves tune n m l cpos cneg eps budget e shrinking).coefficients x h d suffices s b ∙ c_home tune n m l cpos cneg eps false budget d x c_beside s b
 
   pub still_c_iterations : Counts (c_fit tune n l cpos cneg eps false) m d budget x.iterations
@@ -320,7 +320,7 @@ module _ (tune : Tuning) (n : ℕ) (m l : List ℕ) (cpos cneg eps : Float) (shr
   still_c_threshold = c_threshold tune n m l cpos cneg eps false budget d x c_beside
 
 -- one cost for both labels
-module _ (tune : Tuning) (n : ℕ) (m l : List ℕ) (cost eps : Float) (shrinking : Bool) (budget : ℕ) (e : StillLent) (x : Answer) (h : (still_cTuned tune n m l cost cost eps shrinking budget e).out ≡ Accepted x)
+module _ (tune : Tuning) (n : ℕ) (m l : List ℕ) (cost eps : Float) (shrinking : Bool) (budget : ℕ) (e : StillLent) (x : Answer) (h : (still_c_tuned tune n m l cost cost eps shrinking budget e).out ≡ Accepted x)
     (d : Lent) (suffices : sizes_of n (eqb (length l) n) m d ≡ 0) (fit : T (fits binary64 cost)) where
   pub still_c_box : (t i : ℕ) → i < n → In cost (weight_after (c_fit tune n l cost cost eps false) m d t i)
   still_c_box = c_box tune n m l cost eps false budget d x (c_beside tune n m l cost cost eps shrinking budget e x h d suffices) fit

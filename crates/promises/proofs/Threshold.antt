@@ -19,7 +19,7 @@ use Rattle.answer.specs.declared.Outcome.TheVariants.{Accepted, Refused}
 use Rattle.boxed.specs.Range.{Entry, Divides}
 use Rattle.boxrun.proofs.Owned.{Owned, owned_started, owned_updated, trained_owned}
 use Rattle.boxrun.proofs.Quiet.{stop_quiet}
-use Rattle.classification.specs.Entries.{fitted, general_tuned, fit_cTuned, fit_nu_tuned, fit_one_class_tuned}
+use Rattle.classification.specs.Entries.{fitted, general_tuned, fit_c_tuned, fit_nu_tuned, fit_one_class_tuned}
 use Rattle.classification.proofs.Accepts.{refused_apart}
 use Rattle.classification.proofs.Still.{trained_still}
 use Rattle.extreme.specs.Rule.{everybody}
@@ -113,7 +113,7 @@ module _ (tune : Tuning) (n : ℕ) (m l : List ℕ) (c a p : List Float) (nurule
       served_threshold (general_served tune n m l c a p nurule eps shrinking budget d x e)
       (entries_in n m (general_fine n m l c a p eps budget (general_judged_law tune n m l c a p nurule eps shrinking budget d x e)).matrix) (floor_in tune.floor (general_floored tune n m l c a p nurule eps shrinking budget d x e)) x e
 
-module _ (tune : Tuning) (n : ℕ) (m l : List ℕ) (cpos cneg eps : Float) (shrinking : Bool) (budget : ℕ) (d : Lent) (x : Answer) (e : (fit_cTuned tune n m l cpos cneg eps shrinking budget d).out ≡ Accepted x) where
+module _ (tune : Tuning) (n : ℕ) (m l : List ℕ) (cpos cneg eps : Float) (shrinking : Bool) (budget : ℕ) (d : Lent) (x : Answer) (e : (fit_c_tuned tune n m l cpos cneg eps shrinking budget d).out ≡ Accepted x) where
   pub c_threshold : x.exit_reason ≡ ReachedThreshold → Threshold (c_fit tune n l cpos cneg eps shrinking) m d budget
   c_threshold =
       served_threshold (c_served tune n m l cpos cneg eps shrinking budget d x e)

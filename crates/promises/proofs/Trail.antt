@@ -1,5 +1,5 @@
--- A finger on one weight: each step leaves what the pair finder says (`..-found`); a longer run begins with the shorter one (`run-begins`,
--- `steps-begin`); and with shrinking off home has the weights after as many passes as the budget has (`..-trail`). Assumes nothing.
+-- A finger on one weight: each step leaves what the pair finder says (`..-found`); a longer run begins with the shorter one (`run_begins`,
+-- `steps_begin`); and with shrinking off home has the weights after as many passes as the budget has (`..-trail`). Assumes nothing.
 use Prim.Native.Nat.{ℕ, suc, ◌+◌, ◌*◌, ◌≤◌, ◌<◌}
 use mathlib.Core.Bool.{Bool, true, false, cond}
 use mathlib.Core.List.{List, ◌++◌}
@@ -14,7 +14,7 @@ use Rattle.answer.specs.declared.Answer.{Answer}
 use Rattle.answer.specs.declared.Outcome.TheVariants.{Accepted}
 use Rattle.answer.specs.Solved.{stuck}
 use Rattle.boxrun.proofs.Owned.{Owned, runs_owned}
-use Rattle.classification.specs.Entries.{general_tuned, fit_cTuned, fit_nu_tuned, fit_one_class_tuned, general_of, fit_cOf, fit_nu_of, fit_one_class_of}
+use Rattle.classification.specs.Entries.{general_tuned, fit_c_tuned, fit_nu_tuned, fit_one_class_tuned, general_of, fit_c_of, fit_nu_of, fit_one_class_of}
 use Rattle.classification.specs.Still.{Still}
 use Rattle.classification.proofs.Still.{runs_still}
 use Rattle.extreme.specs.declared.Choice.TheVariants.{Pair}
@@ -240,7 +240,7 @@ pub general_found : (tune : Tuning) → tune.floor ≡ floor → (n : ℕ) (m l 
 general_found tune plain n m l c a p nurule eps shrinking budget d x e q h =
     let v = general_served tune n m l c a p nurule eps shrinking budget d x e in served_found v plain q (rw (served_iterations v x e).0 at h)
 
-pub c_found : (tune : Tuning) → tune.floor ≡ floor → (n : ℕ) (m l : List ℕ) (cpos cneg eps : Float) (shrinking : Bool) (budget : ℕ) (d : Lent) (x : Answer) → (fit_cTuned tune n m l cpos cneg eps shrinking budget d).out ≡ Accepted x
+pub c_found : (tune : Tuning) → tune.floor ≡ floor → (n : ℕ) (m l : List ℕ) (cpos cneg eps : Float) (shrinking : Bool) (budget : ℕ) (d : Lent) (x : Answer) → (fit_c_tuned tune n m l cpos cneg eps shrinking budget d).out ≡ Accepted x
     → (q : ℕ) → q < x.iterations → FoundStep (c_fit tune n l cpos cneg eps shrinking) m d budget q
 c_found tune plain n m l cpos cneg eps shrinking budget d x e q h =
     let v = c_served tune n m l cpos cneg eps shrinking budget d x e in served_found v plain q (rw (served_iterations v x e).0 at h)
@@ -258,8 +258,8 @@ pub general_trail : (n : ℕ) (m l : List ℕ) (c a p : List Float) (nurule : Bo
     → Trailed (general_fit plain_tuning n l c a p nurule eps false) m d budget x.iterations (general_of n m l c a p nurule eps false budget d).left.home
 general_trail n m l c a p nurule eps budget d x e = served_trail (general_served plain_tuning n m l c a p nurule eps false budget d x e) refl refl x e
 
-pub c_trail : (n : ℕ) (m l : List ℕ) (cpos cneg eps : Float) (budget : ℕ) (d : Lent) (x : Answer) → (fit_cOf n m l cpos cneg eps false budget d).out ≡ Accepted x
-    → Trailed (c_fit plain_tuning n l cpos cneg eps false) m d budget x.iterations (fit_cOf n m l cpos cneg eps false budget d).left.home
+pub c_trail : (n : ℕ) (m l : List ℕ) (cpos cneg eps : Float) (budget : ℕ) (d : Lent) (x : Answer) → (fit_c_of n m l cpos cneg eps false budget d).out ≡ Accepted x
+    → Trailed (c_fit plain_tuning n l cpos cneg eps false) m d budget x.iterations (fit_c_of n m l cpos cneg eps false budget d).left.home
 c_trail n m l cpos cneg eps budget d x e = served_trail (c_served plain_tuning n m l cpos cneg eps false budget d x e) refl refl x e
 
 pub nu_trail : (n : ℕ) (m l : List ℕ) (nu eps : Float) (budget : ℕ) (d : Lent) (x : Answer) → (fit_nu_of n m l nu eps false budget d).out ≡ Accepted x

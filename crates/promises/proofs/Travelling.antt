@@ -1,4 +1,4 @@
--- In the travelling mode a step clips by the ceilings that were lent for its two samples: `served-own`; and it never turns the fixed gradient: `turn-none`.
+-- In the travelling mode a step clips by the ceilings that were lent for its two samples: `served_own`; and it never turns the fixed gradient: `turn_none`.
 -- Assumes nothing.
 use Prim.Native.Nat.{ℕ, suc, ◌<◌}
 use mathlib.Core.Bool.{Bool, true, false, beq, cond}
@@ -13,7 +13,7 @@ use Rattle.answer.specs.Lent.{Lent, Whole}
 use Rattle.answer.specs.declared.Answer.{Answer}
 use Rattle.answer.specs.declared.Outcome.TheVariants.{Accepted}
 use Rattle.boxrun.proofs.Owned.{Owned, owned_reconstructed, owned_moved, runs_owned}
-use Rattle.classification.specs.Entries.{general_tuned, fit_cTuned}
+use Rattle.classification.specs.Entries.{general_tuned, fit_c_tuned}
 use Rattle.modes.specs.Modes.{travels, repaired}
 use Rattle.modes.specs.declared.Mode.TheVariants.{Travelling}
 use Rattle.solver.specs.Pass.{counted_down, passed, next, runs}
@@ -107,7 +107,7 @@ general_own tune mode plain n m l c a p nurule eps shrinking budget d x e q h =
     let v = general_served tune n m l c a p nurule eps shrinking budget d x e in served_own v mode q (rw (served_iterations v x e).0 at h) plain
 
 pub c_own : (tune : Tuning) → tune.mode ≡ Travelling → tune.floor ≡ floor → (n : ℕ) (m l : List ℕ) (cpos cneg eps : Float) (shrinking : Bool) (budget : ℕ) (d : Lent) (x : Answer)
-    → (fit_cTuned tune n m l cpos cneg eps shrinking budget d).out ≡ Accepted x → (q : ℕ) → q < x.iterations → OwnStep (c_fit tune n l cpos cneg eps shrinking) m d budget q
+    → (fit_c_tuned tune n m l cpos cneg eps shrinking budget d).out ≡ Accepted x → (q : ℕ) → q < x.iterations → OwnStep (c_fit tune n l cpos cneg eps shrinking) m d budget q
 c_own tune mode plain n m l cpos cneg eps shrinking budget d x e q h =
     let v = c_served tune n m l cpos cneg eps shrinking budget d x e in served_own v mode q (rw (served_iterations v x e).0 at h) plain
 

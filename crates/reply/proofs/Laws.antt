@@ -1,8 +1,8 @@
 -- The reply by the calls of the code, and that it is the rule's answer. Assumes nothing.
 --
 -- Main theorems:
---   fit-answers: what the code replies is what the rule's fit answers, with both its readings
---   fit-still: what it replies is what the definition replies, from any scratch
+--   fit_answers: what the code replies is what the rule's fit answers, with both its readings
+--   fit_still: what it replies is what the definition replies, from any scratch
 use Prim.Native.Nat.{ℕ, ◌+◌, ◌*◌, ◌-◌, ◌≤◌}
 use mathlib.Core.Bool.{Bool, true, false}
 use mathlib.Core.List.{List, ◌++◌}

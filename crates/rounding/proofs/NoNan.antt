@@ -1,12 +1,12 @@
 -- Where a result is no NaN: magnitudes that stay bounded, a quotient by what is above zero, and the step of a chosen pair. Assumes nothing.
 --
 -- Main theorems:
---   within-finite: a magnitude of 2^k units at the most, where that is below the overflow, is finite
+--   within_finite: a magnitude of 2^k units at the most, where that is below the overflow, is finite
 --   within_of: a number from -b to b, where b is 2^k units, is within 2^k
---   within-add: a sum of two within 2^k is within 2^(k+1), where that is below the overflow; `within-sub` and `within-twice` for a difference and the double
---   div-real: a quotient by what is finite and above zero is no NaN, where the dividend is none
---   neg-sub-real: where x + y is no NaN, -x - y is none
---   sub-real: where -x + y is no NaN, x - y is none
+--   within_add: a sum of two within 2^k is within 2^(k+1), where that is below the overflow; `within_sub` and `within_twice` for a difference and the double
+--   div_real: a quotient by what is finite and above zero is no NaN, where the dividend is none
+--   neg_sub_real: where x + y is no NaN, -x - y is none
+--   sub_real: where -x + y is no NaN, x - y is none
 use mathlib.Core.Path.{ap}
 use mathlib.Core.Logic.{inl}
 use mathlib.Core.Bool.{Bool, true, false, not}

@@ -2,16 +2,16 @@
 --
 -- Main theorems:
 --   holds: a test as a fact is the test equal to true; `fails` has false
---   le-real: where one float is at most another, neither is NaN; `lt-real` for below
+--   le_real: where one float is at most another, neither is NaN; `lt_real` for below
 --   le_refl: a float that is no NaN is at most itself
---   le_trans: at most and at most is at most; `lt-le-trans` and `le_lt_trans` where one of the two is below
---   not-le: of two that are no NaN, not at most is above; `not-lt`: not below is at least
+--   le_trans: at most and at most is at most; `lt_le_trans` and `le_lt_trans` where one of the two is below
+--   not_le: of two that are no NaN, not at most is above; `not_lt`: not below is at least
 --   le_total: of two that are no NaN, one is at most the other
---   lt-asym: of two floats at most one is below the other; `lt_irrefl`: none is below itself
+--   lt_asym: of two floats at most one is below the other; `lt_irrefl`: none is below itself
 --   least: minus infinity is at most all that is no NaN; `greatest`: infinity is at least that
---   eq-le: equal is at most, both ways
---   ne-itself: only a NaN differs from itself
---   neg-neg: negated twice is the same float
+--   eq_le: equal is at most, both ways
+--   ne_itself: only a NaN differs from itself
+--   neg_neg: negated twice is the same float
 use mathlib.Core.Path.{◌≡◌, refl, ap}
 use mathlib.Core.Logic.{◌⊎◌, inl, inr, ◌↔◌}
 use mathlib.Core.Bool.{Bool, true, false, not, ◌&&◌, cond, true≢false, false≢true}

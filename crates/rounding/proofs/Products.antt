@@ -1,13 +1,13 @@
 -- A product and a quotient in units, the sign that goes through both, and twice a value, which is its sum with itself. Assumes nothing.
 --
 -- Main theorems:
---   mul-units: a product of finite numbers is the exact one of their units, rounded once
---   div-units: so is a quotient of finite numbers, by one that isn't 0
+--   mul_units: a product of finite numbers is the exact one of their units, rounded once
+--   div_units: so is a quotient of finite numbers, by one that isn't 0
 --   mul_comm: a product is the same whichever factor comes first
---   mul-neg: a negated factor negates the product; `mul-neg-right` for the second
---   div-neg: a negated dividend negates the quotient; `div-neg-right` for the divisor
+--   mul_neg: a negated factor negates the product; `mul_neg_right` for the second
+--   div_neg: a negated dividend negates the quotient; `div_neg_right` for the divisor
 --   twice: twice a float is its sum with itself
---   twice-parts: below the overflow the double is exact
+--   twice_parts: below the overflow the double is exact
 use mathlib.Core.Path.{◌≡◌, refl, ap, ap₂, ◌∙◌}
 use mathlib.Core.Logic.{inl, inr}
 use mathlib.Core.Bool.{Bool, true, false, not, cond}

@@ -2,14 +2,14 @@
 --
 -- Main theorems:
 --   round_number: what is rounded is a number of the format
---   round-neg: rounding with the other sign negates
---   round-parts: n units that are rounded have the parts n rounded and 0, or the other way round where the sign is minus
---   value-parts: a value of the format that is u units has the parts u and 0, or the other way round
---   rounded-mono: rounding keeps the order
---   rounded-zero: 0 stays 0; `rounded-pos`: what is above 0 stays above
---   rounded-power: what is at most 2^k stays at most 2^k, below the overflow
---   rounded-top: from the overflow on it is the infinity's number
---   rounded-parts: a number of the format stays; `rounded-twice`: so does its double, below the overflow
+--   round_neg: rounding with the other sign negates
+--   round_parts: n units that are rounded have the parts n rounded and 0, or the other way round where the sign is minus
+--   value_parts: a value of the format that is u units has the parts u and 0, or the other way round
+--   rounded_mono: rounding keeps the order
+--   rounded_zero: 0 stays 0; `rounded_pos`: what is above 0 stays above
+--   rounded_power: what is at most 2^k stays at most 2^k, below the overflow
+--   rounded_top: from the overflow on it is the infinity's number
+--   rounded_parts: a number of the format stays; `rounded_twice`: so does its double, below the overflow
 use mathlib.Core.Path.{◌≡◌, refl, sym, ap, ap₂, ◌∙◌, subst}
 use mathlib.Core.Logic.{◌⊎◌, inl, inr}
 use mathlib.Core.Bool.{Bool, true, false, not, cond}

@@ -1,12 +1,12 @@
 -- A sum and a difference are the exact ones, rounded once: they keep the order, and the sign of a difference is the exact one's. Assumes nothing.
 --
 -- Main theorems:
---   add_rounds: a sum of numbers that is no NaN is the exact one, rounded once; `sub-rounds` for a difference
---   add-number: where one operand is finite, the sum of two numbers is a number; `sub_number` for a difference
---   rounds-mono: rounded values keep the order of the exact ones
---   add-mono: sums of numbers that are no NaN keep the order in both operands; `sub-mono` for differences
+--   add_rounds: a sum of numbers that is no NaN is the exact one, rounded once; `sub_rounds` for a difference
+--   add_number: where one operand is finite, the sum of two numbers is a number; `sub_number` for a difference
+--   rounds_mono: rounded values keep the order of the exact ones
+--   add_mono: sums of numbers that are no NaN keep the order in both operands; `sub_mono` for differences
 --   sign: a rounded value compares with zero as the exact one
---   sub-above: a difference of numbers that is no NaN is above zero exactly where its first operand is above the second
+--   sub_above: a difference of numbers that is no NaN is above zero exactly where its first operand is above the second
 --   sub_self: x less x, where it is no NaN, is a zero
 use mathlib.Core.Path.{◌≡◌, refl, sym, ap, ◌∙◌}
 use mathlib.Core.Logic.{◌⊎◌, inl, inr, ◌↔◌}

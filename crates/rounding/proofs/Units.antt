@@ -2,12 +2,12 @@
 --
 -- Main theorems:
 --   value: the magnitude of a finite number m · 2^e is m with zeros behind it, below the overflow
---   exact-value: a finite number is its magnitude in units, exactly
+--   exact_value: a finite number is its magnitude in units, exactly
 --   compare: two numbers compare as the sums of their parts do, crosswise: nothing is taken off
---   by_sign: what holds of (0, magnitude) and of (magnitude, 0) holds of the parts; `one-part`: one of them is 0
---   eq-parts: two numbers are equal exactly where both parts are
---   zero-parts: a zero has no parts; `neg-parts`: a negation has them exchanged
---   finite-parts: a number is finite exactly where both parts are below the overflow
+--   by_sign: what holds of (0, magnitude) and of (magnitude, 0) holds of the parts; `one_part`: one of them is 0
+--   eq_parts: two numbers are equal exactly where both parts are
+--   zero_parts: a zero has no parts; `neg_parts`: a negation has them exchanged
+--   finite_parts: a number is finite exactly where both parts are below the overflow
 --   same_number: a number is known by its sign and its magnitude
 --   same_parts: and by its parts, where it is no zero
 use mathlib.Core.Path.{◌≡◌, refl, sym, ap, ap₂, ◌∙◌}

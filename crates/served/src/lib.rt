@@ -1,7 +1,8 @@
 // Each entry for a host that lends no scratch: after refusals 1 and 2, with working room of its own.
 #![tactic(auto)]
+
 ghost use Rattle.std.specs.Prelude.{◌≡◌, ◌*◌, ◌≤◌, length};
-ghost use Rattle.classification.specs.Entries.{general_tuned_sized, fit_cTuned_sized, fit_nu_tuned_sized, fit_one_class_tuned_sized};
+ghost use Rattle.classification.specs.Entries.{general_tuned_sized, fit_c_tuned_sized, fit_nu_tuned_sized, fit_one_class_tuned_sized};
 ghost use Rattle.hosted.specs.Hosted.{floats_of, room, Handed, handed, delivered};
 ghost use Rattle.judge.specs.Sizes.{Room};
 ghost use Rattle.retired.specs.Entry.{retired_tuned_sized};
@@ -155,7 +156,7 @@ pub fn c(
 ) -> u64
     requires { (Room n (length m.now) 512 512 3584 1024 512) × (n ≤ length l.now) × (8 * n ≤ length cr.old) × (8 * n ≤ length h.old) × (72 ≤ length answer.old) }
     ensures { ◌≡◌ {A = Handed} (handed result cr.new h.new answer.new)
-        (delivered n (fit_cTuned_sized t n m.now l.now cpos cneg eps shrinking budget room) cr.old h.old answer.old) }
+        (delivered n (fit_c_tuned_sized t n m.now l.now cpos cneg eps shrinking budget room) cr.old h.old answer.old) }
 {
     if shrinking {
         return served_ordered::c(n, m, l, cpos, cneg, eps, budget, t, cr, h, answer);

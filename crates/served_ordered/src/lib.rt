@@ -2,7 +2,7 @@
 #![tactic(auto)]
 
 ghost use Rattle.std.specs.Prelude.{◌≡◌, true, ◌*◌, ◌≤◌, length};
-ghost use Rattle.classification.specs.Entries.{fit_cTuned_sized, fit_nu_tuned_sized, fit_one_class_tuned_sized};
+ghost use Rattle.classification.specs.Entries.{fit_c_tuned_sized, fit_nu_tuned_sized, fit_one_class_tuned_sized};
 ghost use Rattle.hosted.specs.Hosted.{room, Handed, handed, delivered};
 ghost use Rattle.judge.specs.Sizes.{Room};
 
@@ -23,7 +23,7 @@ pub fn c(
 ) -> u64
     requires { (Room n (length m.now) 512 512 3584 1024 512) × (n ≤ length l.now) × (8 * n ≤ length cr.old) × (8 * n ≤ length h.old) × (72 ≤ length answer.old) }
     ensures { ◌≡◌ {A = Handed} (handed result cr.new h.new answer.new)
-        (delivered n (fit_cTuned_sized t n m.now l.now cpos cneg eps true budget room) cr.old h.old answer.old) }
+        (delivered n (fit_c_tuned_sized t n m.now l.now cpos cneg eps true budget room) cr.old h.old answer.old) }
 {
     let mut c2 = hosted::places();
     let mut h2 = hosted::places();

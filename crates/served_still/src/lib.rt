@@ -1,7 +1,8 @@
 // The C, nu and one-class entries with shrinking off, for a host that lends no scratch: after refusals 1 and 2, without an order table, with working room of their own.
 #![tactic(auto)]
+
 ghost use Rattle.std.specs.Prelude.{◌≡◌, false, ◌*◌, ◌≤◌, length};
-ghost use Rattle.classification.specs.Entries.{fit_cTuned_sized, fit_nu_tuned_sized, fit_one_class_tuned_sized};
+ghost use Rattle.classification.specs.Entries.{fit_c_tuned_sized, fit_nu_tuned_sized, fit_one_class_tuned_sized};
 ghost use Rattle.hosted.specs.Hosted.{room, Handed, handed, delivered};
 ghost use Rattle.judge.specs.Sizes.{Room};
 
@@ -22,7 +23,7 @@ pub fn c(
 ) -> u64
     requires { (Room n (length m.now) 512 512 3584 1024 512) × (n ≤ length l.now) × (8 * n ≤ length cr.old) × (8 * n ≤ length h.old) × (72 ≤ length answer.old) }
     ensures { ◌≡◌ {A = Handed} (handed result cr.new h.new answer.new)
-        (delivered n (fit_cTuned_sized t n m.now l.now cpos cneg eps false budget room) cr.old h.old answer.old) }
+        (delivered n (fit_c_tuned_sized t n m.now l.now cpos cneg eps false budget room) cr.old h.old answer.old) }
 {
     let mut r = hosted::places();
     let mut f = hosted::sheet();

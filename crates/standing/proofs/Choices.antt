@@ -24,7 +24,7 @@ use Rattle.rounding.proofs.Order.{holds}
 use Rattle.state.specs.Fields.{gradient, alpha, positive}
 use Rattle.state.specs.Lists.{Problem, State}
 use Rattle.standing.proofs.Alike.{Alike}
-use Rattle.standing.specs.Over.{second_over, choice_over, extremes_over, choice_cOver, risen_over, fallen_over, choice_nu_over}
+use Rattle.standing.specs.Over.{second_over, choice_over, extremes_over, choice_c_over, risen_over, fallen_over, choice_nu_over}
 
 first_true : (x y : Bool) → (x && y) ≡ true → x ≡ true
 first_true true y e = refl
@@ -155,8 +155,8 @@ module _ (stands : ℕ → Bool) (p q : Problem) (s t : State) (A : Alike stands
     risen_stands x i e =
         let r = best_eligible above (inf true) (λ k. stands k && (of_label x (positive s k) && may_rise p s k)) (rise p s) a i e in (r.0, first_true (stands i) _ r.1)
 
-    pub choice_c_alike : (floor eps : Float) → choice_cOver stands p s floor eps a ≡ choice_cOver stands q t floor eps a
-    unfolding choice_cOver
+    pub choice_c_alike : (floor eps : Float) → choice_c_over stands p s floor eps a ≡ choice_c_over stands q t floor eps a
+    unfolding choice_c_over
     choice_c_alike floor eps =
         choice_alike floor (λ x. (extremes_over stands p s a).gmax1) (λ x. (extremes_over stands q t a).gmax1) (λ x. ap (λ (e : Extremes). e.gmax1) extremes_alike) (λ x. gmax1_stands)
         (stop_c (extremes_over stands p s a) eps)
@@ -172,8 +172,8 @@ module _ (stands : ℕ → Bool) (p q : Problem) (s t : State) (A : Alike stands
     abbrev pub Stand : ℕ → ℕ → Type 0
     Stand i j = ((i < a) × (stands i ≡ true)) × ((j < a) × (stands j ≡ true))
 
-    pub pair_c_stands : (floor eps : Float) (i j : ℕ) → choice_cOver stands p s floor eps a ≡ Pair i j → Stand i j
-    unfolding choice_cOver
+    pub pair_c_stands : (floor eps : Float) (i j : ℕ) → choice_c_over stands p s floor eps a ≡ Pair i j → Stand i j
+    unfolding choice_c_over
     pair_c_stands floor eps i j e =
         pair_stands floor (λ x. (extremes_over stands p s a).gmax1) (λ x. (extremes_over stands p s a).gmax1) (λ x. refl) (λ x. gmax1_stands) (stop_c (extremes_over stands p s a) eps) i j e
 

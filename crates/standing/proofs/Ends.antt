@@ -15,7 +15,7 @@ use Rattle.rho.specs.declared.Share.{Share}
 use Rattle.state.specs.Fields.{alpha_in}
 use Rattle.state.specs.Lists.{problem, State}
 use Rattle.standing.proofs.Alike.{Alike}
-use Rattle.standing.specs.End.{share_cOver, share_nu_over, level_over, sum_over, objective_over}
+use Rattle.standing.specs.End.{share_c_over, share_nu_over, level_over, sum_over, objective_over}
 use Rattle.standing.proofs.Choices.{alpha_same}
 
 module _ (stands : ℕ → Bool) (n side : ℕ) (kind : Kind) (m m' : List ℕ) (s t : State)
@@ -27,18 +27,18 @@ module _ (stands : ℕ → Bool) (n side : ℕ) (kind : Kind) (m m' : List ℕ) 
       → share_with_c (eqb y 1) w (signed (eqb y 1) g) e ≡ share_with_c (eqb y' 1) w' (signed (eqb y' 1) g') e'
   weighed_by y y' w w' g g' e e' q1 q2 q3 q4 = rw (q1, q2, q3, q4)
 
-  share_c_alike : (a : ℕ) → a ≤ n → share_cOver stands n s.floats s.labels a ≡ share_cOver stands n t.floats t.labels a
-  unfolding share_cOver
+  share_c_alike : (a : ℕ) → a ≤ n → share_c_over stands n s.floats s.labels a ≡ share_c_over stands n t.floats t.labels a
+  unfolding share_c_over
   share_c_alike zero l = refl
   share_c_alike (suc a) l = go (stands a) refl (share_c_alike a (omega arith))
     where
-      go : (x : Bool) → stands a ≡ x → share_cOver stands n s.floats s.labels a ≡ share_cOver stands n t.floats t.labels a
+      go : (x : Bool) → stands a ≡ x → share_c_over stands n s.floats s.labels a ≡ share_c_over stands n t.floats t.labels a
           → cond x
-          (share_with_c (positive_in s.labels a) (alpha_in n s.floats a) (signed (positive_in s.labels a) (get_or s.floats a nan)) (share_cOver stands n s.floats s.labels a))
-          (share_cOver stands n s.floats s.labels a)
+          (share_with_c (positive_in s.labels a) (alpha_in n s.floats a) (signed (positive_in s.labels a) (get_or s.floats a nan)) (share_c_over stands n s.floats s.labels a))
+          (share_c_over stands n s.floats s.labels a)
           ≡ cond x
-          (share_with_c (positive_in t.labels a) (alpha_in n t.floats a) (signed (positive_in t.labels a) (get_or t.floats a nan)) (share_cOver stands n t.floats t.labels a))
-          (share_cOver stands n t.floats t.labels a)
+          (share_with_c (positive_in t.labels a) (alpha_in n t.floats a) (signed (positive_in t.labels a) (get_or t.floats a nan)) (share_c_over stands n t.floats t.labels a))
+          (share_c_over stands n t.floats t.labels a)
       go true h z = weighed_by _ _ _ _ _ _ _ _ (A.labels a (omega arith) h) (alpha_is a (omega arith) h) (A.gradients a (omega arith) h) z
       go false h z = z
 

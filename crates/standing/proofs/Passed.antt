@@ -8,7 +8,7 @@ use lib.Ieee.{Float, nan, binary64, of_bits, add, mul}
 use lib.ListN.{get_or}
 use Rattle.rho.specs.Rho.{no_share, share_with_c, joined_nu, positive_in, signed}
 use Rattle.state.specs.Fields.{alpha_in}
-use Rattle.standing.specs.End.{standing, folded, share_cOver, share_nu_over, sum_over}
+use Rattle.standing.specs.End.{standing, folded, share_c_over, share_nu_over, sum_over}
 
 folded_more : {S : Type 0} (step : ℕ → S → S) (s : S) (ks : List ℕ) (k : ℕ) → folded step s (ks ++ (k ∷ [])) ≡ step k (folded step s ks)
 unfolding folded
@@ -34,10 +34,10 @@ module _ (stands : ℕ → Bool) (n : ℕ) (f : List Float) where
   sum_passes = passed_over stands _ _ (sum_over stands n f) refl (λ k. refl)
 
   module _ (y : List ℕ) where
-    pub share_c_passes : (k : ℕ) → share_cOver stands n f y k
+    pub share_c_passes : (k : ℕ) → share_c_over stands n f y k
         ≡ folded (λ j s. share_with_c (positive_in y j) (alpha_in n f j) (signed (positive_in y j) (get_or f j nan)) s) no_share (standing stands k)
-    unfolding share_cOver
-    share_c_passes = passed_over stands _ _ (share_cOver stands n f y) refl (λ k. refl)
+    unfolding share_c_over
+    share_c_passes = passed_over stands _ _ (share_c_over stands n f y) refl (λ k. refl)
 
     pub share_nu_passes : (r : Bool) (label k : ℕ) → share_nu_over stands n f y r label k
         ≡ folded (λ j s. joined_nu r (eqb (get_or y j 0) label) (alpha_in n f j) (get_or f j nan) s) no_share (standing stands k)

@@ -19,15 +19,15 @@ use Rattle.solver.specs.declared.Status.TheVariants.{Going, Done}
 use Rattle.state.specs.Lists.{State}
 use Rattle.trace.specs.Rule.{ByRule, NoPair}
 use Rattle.trace.proofs.Rule.{choice_by, by_words, none_by_words}
-use Rattle.standing.specs.Over.{second_over, choice_over, extremes_over, choice_cOver, risen_over, fallen_over, choice_nu_over}
+use Rattle.standing.specs.Over.{second_over, choice_over, extremes_over, choice_c_over, risen_over, fallen_over, choice_nu_over}
 use Rattle.standing.specs.Run.{chosen_over, passed_on, next_over, runs_over}
 
 module _ (stands : ℕ → Bool) (g : Given) (m : List ℕ) where
   chosen_is : (s : State) → chosen_over stands g m s ≡ choice_by stands g m s g.n g.nu
-  unfolding chosen_over choice_cOver choice_nu_over choice_over second_over extremes_over risen_over fallen_over
+  unfolding chosen_over choice_c_over choice_nu_over choice_over second_over extremes_over risen_over fallen_over
   chosen_is s = go g.nu
     where
-      go : (x : Bool) → cond x (choice_nu_over stands (problem_of g m) s g.floor g.eps g.n) (choice_cOver stands (problem_of g m) s g.floor g.eps g.n) ≡ choice_by stands g m s g.n x
+      go : (x : Bool) → cond x (choice_nu_over stands (problem_of g m) s g.floor g.eps g.n) (choice_c_over stands (problem_of g m) s g.floor g.eps g.n) ≡ choice_by stands g m s g.n x
       go true = refl
       go false = refl
 

@@ -15,7 +15,7 @@ use Rattle.solver.specs.declared.Run.{Run}
 use Rattle.state.specs.Lists.{State}
 use Rattle.update.proofs.Left.{length_updated}
 use Rattle.standing.proofs.Alike.{Alike, SameBounds}
-use Rattle.standing.specs.Over.{choice_cOver, choice_nu_over}
+use Rattle.standing.specs.Over.{choice_c_over, choice_nu_over}
 use Rattle.standing.specs.Run.{chosen_over, passed_on, next_over, runs_over}
 use Rattle.standing.proofs.Choices.{choice_c_alike, choice_nu_alike, pair_c_stands, pair_nu_stands}
 use Rattle.standing.proofs.Updates.{updated_alike}
@@ -36,7 +36,7 @@ module _ (stands : ℕ → Bool) (g : Given) (m m' : List ℕ) where
   chosen_stands s t a i j = go g.nu
     where
       go : (x : Bool)
-          → cond x (choice_nu_over stands (problem_of g m) s g.floor g.eps g.n) (choice_cOver stands (problem_of g m) s g.floor g.eps g.n) ≡ Pair i j
+          → cond x (choice_nu_over stands (problem_of g m) s g.floor g.eps g.n) (choice_c_over stands (problem_of g m) s g.floor g.eps g.n) ≡ Pair i j
           → ((i < g.n) × (stands i ≡ true)) × ((j < g.n) × (stands j ≡ true))
       go true e = pair_nu_stands stands (problem_of g m) (problem_of g m') s t a g.n (omega arith) g.floor g.eps i j e
       go false e = pair_c_stands stands (problem_of g m) (problem_of g m') s t a g.n (omega arith) g.floor g.eps i j e

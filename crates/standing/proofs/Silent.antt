@@ -27,8 +27,8 @@ use Rattle.rho.specs.declared.Share.{Share}
 use Rattle.rounding.proofs.Nan.{lt_nan, le_nan, add_nan, sub_nan, mul_nan}
 use Rattle.state.specs.Fields.{gradient, alpha, alpha_in, positive}
 use Rattle.state.specs.Lists.{Problem, State}
-use Rattle.standing.specs.End.{share_cOver, share_nu_over, level_over}
-use Rattle.standing.specs.Over.{second_over, choice_over, extremes_over, choice_cOver, risen_over, fallen_over, choice_nu_over}
+use Rattle.standing.specs.End.{share_c_over, share_nu_over, level_over}
+use Rattle.standing.specs.Over.{second_over, choice_over, extremes_over, choice_c_over, risen_over, fallen_over, choice_nu_over}
 use Rattle.standing.proofs.Choices.{stop_by}
 
 shut : (x : Bool) → (x && false) ≡ false
@@ -111,8 +111,8 @@ module _ (stands : ℕ → Bool) (p : Problem) (s : State) (S : Silent stands p 
       unfolding choice choice_over
       choice_silent lead stop = ap (λ (e : Extreme). cond stop Optimal (paired_with (λ j. (lead (positive s j)).holder) e.holder)) (second_silent lead)
 
-      pub choice_c_silent : (eps : Float) → choice_c p s floor eps a ≡ choice_cOver stands p s floor eps a
-      unfolding choice_c choice_cOver
+      pub choice_c_silent : (eps : Float) → choice_c p s floor eps a ≡ choice_c_over stands p s floor eps a
+      unfolding choice_c choice_c_over
       choice_c_silent eps =
           ap (λ (e : Extremes). choice p s floor (λ x. e.gmax1) (stop_c e eps) a) extremes_silent
           ∙ choice_silent (λ x. (extremes_over stands p s a).gmax1) (stop_c (extremes_over stands p s a) eps)
@@ -182,8 +182,8 @@ module _ (stands : ℕ → Bool) (p : Problem) (s : State) (S : Silent stands p 
       go false true = low_nan e
       go false false = high_nan e
 
-  share_c_silent : (a : ℕ) → a ≤ p.n → share_c p.n s.floats s.labels a ≡ share_cOver stands p.n s.floats s.labels a
-  unfolding share_c share_cOver
+  share_c_silent : (a : ℕ) → a ≤ p.n → share_c p.n s.floats s.labels a ≡ share_c_over stands p.n s.floats s.labels a
+  unfolding share_c share_c_over
   share_c_silent zero l = refl
   share_c_silent (suc a) l = go (stands a) refl (share_c_silent a (omega arith))
     where
@@ -197,7 +197,7 @@ module _ (stands : ℕ → Bool) (p : Problem) (s : State) (S : Silent stands p 
       e = share_c p.n s.floats s.labels a
 
       e' : Share
-      e' = share_cOver stands p.n s.floats s.labels a
+      e' = share_c_over stands p.n s.floats s.labels a
 
       go : (y : Bool) → stands a ≡ y → e ≡ e' → share_with_c x w (signed x (get_or s.floats a nan)) e ≡ cond y (share_with_c x w (signed x (get_or s.floats a nan)) e') e'
       go true h z = rw z

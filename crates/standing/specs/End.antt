@@ -10,10 +10,10 @@ use Rattle.state.specs.Fields.{alpha_in}
 
 module _ (stands : ℕ → Bool) (n : ℕ) (f : List Float) where
   module _ (y : List ℕ) where
-    unfoldable pub share_cOver : ℕ → Share
-    share_cOver zero = no_share
-    share_cOver (suc k) =
-        let s = share_cOver k in
+    unfoldable pub share_c_over : ℕ → Share
+    share_c_over zero = no_share
+    share_c_over (suc k) =
+        let s = share_c_over k in
         cond (stands k) (share_with_c (positive_in y k) (alpha_in n f k) (signed (positive_in y k) (get_or f k nan)) s) s
 
     -- of the positions of one label, 1 or 0
@@ -25,7 +25,7 @@ module _ (stands : ℕ → Bool) (n : ℕ) (f : List Float) where
     unfoldable pub level_over : Bool → Bool → Level
     level_over nu repaired =
         cond nu (level_of (middle (share_nu_over repaired 1 n)) (middle (share_nu_over repaired 0 n)))
-        (record { rho = middle (share_cOver n); r = of_bits binary64 0 })
+        (record { rho = middle (share_c_over n); r = of_bits binary64 0 })
 
   -- the sum of weight·(gradient + linear term), in order
   unfoldable pub sum_over : ℕ → Float

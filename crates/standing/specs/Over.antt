@@ -33,8 +33,8 @@ module _ (stands : ℕ → Bool) (p : Problem) (s : State) where
         gmax2 = best at_least (inf true) (λ k. stands k && may_fall p s k) (fall p s) a;
       }
 
-  unfoldable pub choice_cOver : Float → Float → ℕ → Choice
-  choice_cOver floor eps a = choice_over floor (λ t. (extremes_over a).gmax1) (stop_c (extremes_over a) eps) a
+  unfoldable pub choice_c_over : Float → Float → ℕ → Choice
+  choice_c_over floor eps a = choice_over floor (λ t. (extremes_over a).gmax1) (stop_c (extremes_over a) eps) a
 
   -- ---- nu rule
 

@@ -7,12 +7,12 @@ use Rattle.solver.specs.Run.{problem_of, Full, with_run, goes, ended}
 use Rattle.solver.specs.declared.Given.{Given}
 use Rattle.state.specs.Lists.{State}
 use Rattle.trace.specs.Trace.{Step, steps_of, start_of}
-use Rattle.standing.specs.Over.{choice_cOver, choice_nu_over}
+use Rattle.standing.specs.Over.{choice_c_over, choice_nu_over}
 
 module _ (stands : ℕ → Bool) (g : Given) (m : List ℕ) where
   -- the pair, by the rule that holds
   unfoldable pub chosen_over : State → Choice
-  chosen_over s = cond g.nu (choice_nu_over stands (problem_of g m) s g.floor g.eps g.n) (choice_cOver stands (problem_of g m) s g.floor g.eps g.n)
+  chosen_over s = cond g.nu (choice_nu_over stands (problem_of g m) s g.floor g.eps g.n) (choice_c_over stands (problem_of g m) s g.floor g.eps g.n)
 
   module _ (b : List Float) where
     -- one step, or the end

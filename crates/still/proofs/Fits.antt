@@ -1,7 +1,7 @@
 -- With shrinking off each fit of the rule answers what its fit without an order table answers: C, nu, one-class. Assumes nothing.
 --
 -- Main theorems:
---   c-still: the C fit, with judged labels and costs; `nu-still`: the nu fit; `one-class-still`: the one-class fit
+--   c_still: the C fit, with judged labels and costs; `nu_still`: the nu fit; `one_class_still`: the one-class fit
 use Prim.Native.Nat.{ℕ, zero, suc, ◌*◌, ◌≤◌, ◌<◌}
 use mathlib.Core.Bool.{Bool, true, false, cond}
 use mathlib.Core.List.{List}

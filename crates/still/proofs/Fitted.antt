@@ -1,10 +1,10 @@
 -- With shrinking off a fit answers what the training without an order table answers, and both its readings are that one's result. Assumes nothing.
 --
 -- Main theorems:
---   fitted-from: outcome, home and crate reading of any fit whose ceilings go by label, from a scratch that holds the start weights
---   fitted-still: the same, from any scratch
---   out-alike: the outcome is the same whatever result list is lent, and `result-alike` each place of it
---   from-any: what is replied is the same from any scratch that holds the start weights
+--   fitted_from: outcome, home and crate reading of any fit whose ceilings go by label, from a scratch that holds the start weights
+--   fitted_still_law: the same, from any scratch
+--   out_alike: the outcome is the same whatever result list is lent, and `result_alike` each place of it
+--   from_any: what is replied is the same from any scratch that holds the start weights
 use Prim.Native.Nat.{ℕ, zero, suc, ◌+◌, ◌*◌, ◌≤◌, ◌<◌}
 use mathlib.Core.Bool.{Bool, true, false, cond}
 use mathlib.Core.List.{List}

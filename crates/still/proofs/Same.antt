@@ -14,7 +14,7 @@ use lib.Ieee.{Float, nan}
 use lib.ListN.{length, get_or}
 use Rattle.answer.specs.Lent.{Lent, Whole}
 use Rattle.answer.specs.declared.Finish.{Finish}
-use Rattle.classification.specs.Entries.{decided, entered, sizes_of, fit_cTuned_sized, fit_cTuned, fit_nu_tuned_sized, fit_nu_tuned, fit_one_class_tuned_sized, fit_one_class_tuned}
+use Rattle.classification.specs.Entries.{decided, entered, sizes_of, fit_c_tuned_sized, fit_c_tuned, fit_nu_tuned_sized, fit_nu_tuned, fit_one_class_tuned_sized, fit_one_class_tuned}
 use Rattle.classification.proofs.Accepts.{refused_apart}
 use Rattle.judge.specs.Judge.{and_then, floor_judged}
 use Rattle.judge.specs.Sizes.{Room}
@@ -26,7 +26,7 @@ use Rattle.orderless.specs.Sheet.{sized}
 use Rattle.solver.specs.declared.Given.{Given}
 use Rattle.tuning.specs.declared.Tuning.{Tuning}
 use Rattle.still.specs.Answered.{Answers, fitted_still}
-use Rattle.still.specs.Entries.{StillLent, StillWhole, still_left, still_sizes, StillRoom, still_judged, still_decided, still_entered, still_cTuned_sized, still_cTuned, still_nu_tuned_sized, still_nu_tuned, still_one_class_tuned_sized, still_one_class_tuned}
+use Rattle.still.specs.Entries.{StillLent, StillWhole, still_left, still_sizes, StillRoom, still_judged, still_decided, still_entered, still_c_tuned_sized, still_c_tuned, still_nu_tuned_sized, still_nu_tuned, still_one_class_tuned_sized, still_one_class_tuned}
 use Rattle.still.proofs.Fitted.{out_alike, result_alike}
 use Rattle.still.proofs.Fits.{c_still, nu_still, one_class_still}
 use Rattle.still.specs.Same.{Same}
@@ -71,8 +71,8 @@ room_nu false n f h = omega arith
 module _ (t : Tuning) (n : ℕ) (m : List ℕ) (eps : Float) (budget : ℕ) (d : Lent) (e : StillLent)
     (R : Room n (length m) (length d.crate) (length d.home) (length d.floats) (length d.numbers) (length d.bytes))
     (S : StillRoom n (length m) (length e.result) (length e.floats) (length e.bytes)) where
-  pub c_sized_same : (l : List ℕ) (cpos cneg : Float) → Same n d e (fit_cTuned_sized t n m l cpos cneg eps false budget d) (still_cTuned_sized t n m l cpos cneg eps false budget e)
-  unfolding fit_cTuned_sized still_cTuned_sized
+  pub c_sized_same : (l : List ℕ) (cpos cneg : Float) → Same n d e (fit_c_tuned_sized t n m l cpos cneg eps false budget d) (still_c_tuned_sized t n m l cpos cneg eps false budget e)
+  unfolding fit_c_tuned_sized still_c_tuned_sized
   c_sized_same l cpos cneg = judged_same n d e _ _ t.floor _ (λ h.
       let q = c_fine n m l cpos cneg eps budget h in
       fit_same _ _ _ _ _ _ _ budget d e _ (c_still _ m budget d e.floats refl refl R.most R.floats R.numbers R.bytes (room_nu false n _ S.floats) l refl q.labels cpos cneg q.cpos_good q.cneg_good) R.home S.result)
@@ -92,8 +92,8 @@ module _ (t : Tuning) (n : ℕ) (m : List ℕ) (eps : Float) (budget : ℕ) (d :
 
 module _ (t : Tuning) (n : ℕ) (m l : List ℕ) (eps : Float) (budget : ℕ) (d : Lent) (e : StillLent)
     (fits : sizes_of n (eqb (length l) n) m d ≡ 0) (suffices : still_sizes n (eqb (length l) n) m e ≡ 0) where
-  pub c_same : (cpos cneg : Float) → Same n d e (fit_cTuned t n m l cpos cneg eps false budget d) (still_cTuned t n m l cpos cneg eps false budget e)
-  unfolding fit_cTuned still_cTuned
+  pub c_same : (cpos cneg : Float) → Same n d e (fit_c_tuned t n m l cpos cneg eps false budget d) (still_c_tuned t n m l cpos cneg eps false budget e)
+  unfolding fit_c_tuned still_c_tuned
   c_same cpos cneg =
       entered_same n d e _ _ _ _ fits suffices (c_sized_same t n m eps budget d e (room_of _ _ _ _ _ _ _ _ fits) (room_still _ _ _ _ _ _ suffices) l cpos cneg)
 

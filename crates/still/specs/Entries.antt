@@ -76,16 +76,16 @@ still_entered number w e = cond (eqb number 0) w (still_untouched (Refused numbe
 
 -- ---- the entries, under a tuning t; what follows the sizes stands by itself
 
-unfoldable pub still_cTuned_sized : Tuning → ℕ → List ℕ → List ℕ → Float → Float → Float → Bool → ℕ → StillLent → StillWhole
-still_cTuned_sized t n m l cpos cneg eps shrinking budget e =
+unfoldable pub still_c_tuned_sized : Tuning → ℕ → List ℕ → List ℕ → Float → Float → Float → Bool → ℕ → StillLent → StillWhole
+still_c_tuned_sized t n m l cpos cneg eps shrinking budget e =
     still_decided
     (still_judged t.floor shrinking (c_judged n m l cpos cneg eps budget))
     (still_left n (still_c (given_by t n TwoClass eps false false) m l cpos cneg budget e.floats e.result) e)
     e
 
-unfoldable pub still_cTuned : Tuning → ℕ → List ℕ → List ℕ → Float → Float → Float → Bool → ℕ → StillLent → StillWhole
-still_cTuned t n m l cpos cneg eps shrinking budget e =
-    still_entered (still_sizes n (eqb (length l) n) m e) (still_cTuned_sized t n m l cpos cneg eps shrinking budget e) e
+unfoldable pub still_c_tuned : Tuning → ℕ → List ℕ → List ℕ → Float → Float → Float → Bool → ℕ → StillLent → StillWhole
+still_c_tuned t n m l cpos cneg eps shrinking budget e =
+    still_entered (still_sizes n (eqb (length l) n) m e) (still_c_tuned_sized t n m l cpos cneg eps shrinking budget e) e
 
 unfoldable pub still_nu_tuned_sized : Tuning → ℕ → List ℕ → List ℕ → Float → Float → Bool → ℕ → StillLent → StillWhole
 still_nu_tuned_sized t n m l nu eps shrinking budget e =

@@ -1,9 +1,10 @@
 // The C entry without an order table: refusals 1 to 5, 8, 10, 14 and 13 first, then the fit. Under a tuning.
 #![tactic(auto)]
+
 ghost use Rattle.std.specs.Prelude.{◌≡◌, false, ◌≤◌, length};
 ghost use Rattle.classification.specs.Entries.{given_by};
 ghost use Rattle.judge.specs.Judge.{c_judged};
-ghost use Rattle.still.specs.Entries.{still_lent, StillWhole, still_whole, still_left, StillRoom, still_cTuned_sized, still_cTuned};
+ghost use Rattle.still.specs.Entries.{still_lent, StillWhole, still_whole, still_left, StillRoom, still_c_tuned_sized, still_c_tuned};
 ghost use Rattle.still.specs.Fits.{still_c};
 
 use answer::{Finish, Outcome};
@@ -63,7 +64,7 @@ pub fn sized(
 ) -> Outcome
     requires { (StillRoom n (length m.now) (length h.old) (length f.old) (length y.old)) × (n ≤ length l.now) }
     ensures { ◌≡◌ {A = StillWhole} (still_whole result h.new f.new y.new)
-        (still_cTuned_sized t n m.now l.now cpos cneg eps shrinking budget (still_lent h.old f.old y.old)) }
+        (still_c_tuned_sized t n m.now l.now cpos cneg eps shrinking budget (still_lent h.old f.old y.old)) }
 {
     let j10 = verdict::c_judged(n, m, l, cpos, cneg, eps, budget);
     let j14 = judge::floor_judged(j10, t.floor);
@@ -90,7 +91,7 @@ pub fn still_c_tuned(
     y: &mut [u8],
 ) -> Outcome
     ensures { ◌≡◌ {A = StillWhole} (still_whole result h.new f.new y.new)
-        (still_cTuned t n m.now l.now cpos cneg eps shrinking budget (still_lent h.old f.old y.old)) }
+        (still_c_tuned t n m.now l.now cpos cneg eps shrinking budget (still_lent h.old f.old y.old)) }
 {
     let inputs = l.len() == n;
     let s = reply::sized(n, inputs, m.len(), h.len(), f.len(), y.len());

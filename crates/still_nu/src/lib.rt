@@ -1,5 +1,6 @@
 // The nu entry without an order table: refusals 1 to 4, 8 to 10, 14 and 13 first, then the fit. Under a tuning.
 #![tactic(auto)]
+
 ghost use Rattle.std.specs.Prelude.{◌≡◌, false, true, ◌≤◌, length};
 ghost use Rattle.classification.specs.Entries.{given_by};
 ghost use Rattle.judge.specs.Judge.{nu_judged};

@@ -1,5 +1,6 @@
 // The one-class entry without an order table: refusals 1 to 3, 8 to 10, 14 and 13 first, then the fit. Under a tuning.
 #![tactic(auto)]
+
 ghost use Rattle.std.specs.Prelude.{◌≡◌, false, length};
 ghost use Rattle.classification.specs.Entries.{given_by};
 ghost use Rattle.judge.specs.Judge.{one_class_judged};

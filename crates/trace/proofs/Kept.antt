@@ -1,12 +1,12 @@
 -- What reconstruction, moves and updates keep, a run keeps. Assumes nothing.
 --
 -- Main theorems:
---   chosen-apart: the two of a pair are two
+--   chosen_apart: the two of a pair are two
 --   pair_keeps: what an update at any two active positions keeps, one at a chosen pair keeps
---   look-keeps: what reconstruction and moves keep holds where a pass takes its last look; `rebuilt-keeps`, `shrunk-keeps`, `counted-keeps` before it
---   passed-keeps: with updates, a pass keeps it
---   runs-keeps: and a run of any number of passes
---   trained-keeps: and start, run and end together; `closed-keeps` for the end alone
+--   look_keeps: what reconstruction and moves keep holds where a pass takes its last look; `rebuilt_keeps`, `shrunk_keeps`, `counted_keeps` before it
+--   passed_keeps: with updates, a pass keeps it
+--   runs_keeps: and a run of any number of passes
+--   trained_keeps: and start, run and end together; `closed_keeps` for the end alone
 use Prim.Native.Nat.{ℕ, zero, suc, ◌-◌, ◌≤◌, ◌<◌}
 use mathlib.Core.Bool.{Bool, true, false, not, ◌&&◌, cond}
 use mathlib.Core.List.{List}

@@ -1,5 +1,5 @@
--- The crate's run and the one whose ceilings travel are the same, pass for pass, with one common ceiling (`trained-common`), and with shrinking off
--- (`trained-off`). Assumes nothing.
+-- The crate's run and the one whose ceilings travel are the same, pass for pass, with one common ceiling (`trained_common`), and with shrinking off
+-- (`trained_off`). Assumes nothing.
 use Prim.Native.Nat.{ℕ, zero, suc, ◌+◌, ◌*◌, ◌≤◌, ◌<◌}
 use mathlib.Core.Bool.{Bool, true, false, cond}
 use mathlib.Core.List.{List}

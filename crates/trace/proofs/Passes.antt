@@ -2,9 +2,9 @@
 --
 -- Main theorems:
 --   look-status, look-iterations: no look ends a run or counts a step
---   pair-look: the pair with which a pass steps is the choice in the state of its last look
---   pass-steps: a pass with a pair is one update from that state, and one iteration
---   pass-ends: a pass with no pair goes no further than its walk, or finds none at either look and ends the run
+--   pair_look: the pair with which a pass steps is the choice in the state of its last look
+--   pass_steps: a pass with a pair is one update from that state, and one iteration
+--   pass_ends: a pass with no pair goes no further than its walk, or finds none at either look and ends the run
 use Prim.Native.Nat.{ℕ, ◌+◌}
 use mathlib.Core.Bool.{Bool, true, false, cond}
 use mathlib.Core.List.{List}

@@ -1,8 +1,8 @@
 -- What a start and a reconstruction leave as it was. Assumes nothing.
 --
 -- Main theorems:
---   same-started: the start leaves weights, ceilings and linear terms; `same-laid`, `same-gathered` and `same-diagonal` are its parts
---   same-reconstructed: a reconstruction leaves all but the gradients
+--   same_started: the start leaves weights, ceilings and linear terms; `same_laid`, `same_gathered` and `same_diagonal` are its parts
+--   same_reconstructed: a reconstruction leaves all but the gradients
 use Prim.Native.Nat.{ℕ, zero, suc, ◌+◌, ◌-◌, ◌*◌, ◌≤◌, ◌<◌}
 use mathlib.Core.Bool.{Bool, true, false, cond}
 use mathlib.Core.List.{List}

@@ -1,8 +1,8 @@
 -- What the start leaves of gradients and diagonal. Assumes nothing.
 --
 -- Main theorems:
---   laid-at: before any weight is joined the gradient is the linear term; `joined-gradient`: what a weight adds to it
---   diagonal-own: each diagonal entry stands at its kernel index
+--   laid_at: before any weight is joined the gradient is the linear term; `joined_gradient`: what a weight adds to it
+--   diagonal_own: each diagonal entry stands at its kernel index
 use Prim.Native.Nat.{ℕ, zero, suc, ◌+◌, ◌*◌, ◌<◌, ◌≤◌}
 use mathlib.Core.Bool.{Bool, true, false, cond}
 use mathlib.Core.List.{List}

@@ -1,15 +1,15 @@
 -- The run, told by its passes and by its steps. Assumes nothing.
 --
 -- Main theorems:
---   state-at: the k-th state of the list is what the k-th pass left, from where the run was going on
---   pass-by-pass: each state is the pass of the one before
---   last-state: the run's end is the last of them, or its start where there is none
---   states-off: a run that has stopped makes no pass; `traced-off`: and no step
---   runs-more: a run of more passes goes on from what the first ones left; `traced-more`: with the same steps and more
---   iterations-are-steps: the iterations of a run grow by the number of its steps
---   steps-at-most: t passes make at most t steps; `steps-going`: exactly t while the run goes on
---   trained-iterations: the count that is answered is the number of steps; `trained-at-most`: at most the budget
---   trained-last: the answer is read off the last state
+--   state_at: the k-th state of the list is what the k-th pass left, from where the run was going on
+--   pass_by_pass: each state is the pass of the one before
+--   last_state: the run's end is the last of them, or its start where there is none
+--   states_off: a run that has stopped makes no pass; `traced_off`: and no step
+--   runs_more: a run of more passes goes on from what the first ones left; `traced_more`: with the same steps and more
+--   iterations_are_steps: the iterations of a run grow by the number of its steps
+--   steps_at_most: t passes make at most t steps; `steps_going`: exactly t while the run goes on
+--   trained_iterations: the count that is answered is the number of steps; `trained_at_most`: at most the budget
+--   trained_last: the answer is read off the last state
 use Prim.Native.Nat.{ℕ, zero, suc, ◌+◌, ◌≤◌, ◌<◌}
 use mathlib.Core.Bool.{Bool, true, false, ◌&&◌, cond, true≢false}
 use mathlib.Core.List.{List, [], ◌∷◌, ◌++◌, append-nil, append_assoc}

@@ -1,12 +1,12 @@
 -- Home is what the last step that chose a sample left it. Assumes nothing.
 --
 -- Main theorems:
---   never-chosen: what the steps leave of a sample that none of them chose is what it had
---   last-chosen-j: where a step chose it second, and none after did, it is what that step left; `last-chosen-i` where it chose it first alone
---   told-step: one update leaves the two samples what the step records, and the others what they had
---   runs-tell: after any number of passes each weight is what the last step that chose its sample left, else the one at the start
---   home-is-last: and so is the weight at the place where the order has a sample
---   trained-home: and so is the home reading when the run has ended
+--   never_chosen: what the steps leave of a sample that none of them chose is what it had
+--   last_chosen_j: where a step chose it second, and none after did, it is what that step left; `last_chosen_i` where it chose it first alone
+--   told_step: one update leaves the two samples what the step records, and the others what they had
+--   runs_tell: after any number of passes each weight is what the last step that chose its sample left, else the one at the start
+--   home_is_last: and so is the weight at the place where the order has a sample
+--   trained_home: and so is the home reading when the run has ended
 use Prim.Native.Nat.{ℕ, zero, suc, ◌+◌, ◌*◌, ◌≤◌, ◌<◌}
 use mathlib.Core.Bool.{Bool, true, false}
 use mathlib.Core.List.{List, [], ◌∷◌, ◌++◌}

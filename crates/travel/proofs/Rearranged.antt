@@ -1,10 +1,10 @@
 -- A walk is one rearrangement of all that travels. Assumes nothing.
 --
 -- Main theorems:
---   one-rearrangement: a walk is one rearrangement of the positions, the same for every field
---   rearranged-moved: a rearrangement and one move is one; `rearranged-none`: so is no move
---   perm-rearranged: each sample still stands at one place
---   travelled-rearranged: and has with it what it had
+--   one_rearrangement: a walk is one rearrangement of the positions, the same for every field
+--   rearranged_moved: a rearrangement and one move is one; `rearranged_none`: so is no move
+--   perm_rearranged: each sample still stands at one place
+--   travelled_rearranged: and has with it what it had
 use Prim.Native.Nat.{ℕ, ◌+◌, ◌*◌, ◌≤◌, ◌<◌}
 use mathlib.Core.Path.{◌≡◌, refl, sym, ap, ap₂, ◌∙◌}
 use native.Mathlib.Nat.{zero-mul, one-mul, zero-add}

@@ -1,13 +1,13 @@
 -- What stays with a sample through a whole run. Assumes nothing.
 --
 -- Main theorems:
---   started-stays: a start moves no sample; nor does a reconstruction (`reconstructed-stays`) or an update (`updated-stays`)
---   fresh-travelled: in lists as lent each sample has what was lent for it
---   travelled-runs: what each sample has with it, it has after any number of passes; `travelled-look`: and at the last look of a pass
---   travelled-from: from lists as lent: each sample has the kernel index, the label and the linear term that were lent for it
---   travelled-trained: and so when the run has ended
---   counted-moves: before its look a pass moves samples by one rearrangement at the most
---   pass-stays: and not at all from there on
+--   started_stays: a start moves no sample; nor does a reconstruction (`reconstructed_stays`) or an update (`updated_stays`)
+--   fresh_travelled: in lists as lent each sample has what was lent for it
+--   travelled_runs: what each sample has with it, it has after any number of passes; `travelled_look`: and at the last look of a pass
+--   travelled_from: from lists as lent: each sample has the kernel index, the label and the linear term that were lent for it
+--   travelled_trained: and so when the run has ended
+--   counted_moves: before its look a pass moves samples by one rearrangement at the most
+--   pass_stays: and not at all from there on
 use Prim.Native.Nat.{ℕ, ◌+◌, ◌-◌, ◌*◌, ◌≤◌, ◌<◌}
 use mathlib.Core.Bool.{Bool, true, false, not, ◌&&◌, cond}
 use mathlib.Core.List.{List}

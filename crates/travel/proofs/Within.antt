@@ -1,9 +1,9 @@
 -- The order that a run leaves names samples: where each kernel index is the sample number at the start, it is at the end. Assumes nothing.
 --
 -- Main theorems:
---   sample-moved: what a move does to the order; `index-moved`: and to the kernel indices
---   runs-numbered: where each kernel index is the sample number, it is after any number of passes; `trained-numbered`: and at the end
---   trained-within: so the order that is left names samples only, where the matrix has n rows
+--   sample_moved: what a move does to the order; `index_moved`: and to the kernel indices
+--   runs_numbered: where each kernel index is the sample number, it is after any number of passes; `trained_numbered`: and at the end
+--   trained_within: so the order that is left names samples only, where the matrix has n rows
 use Prim.Native.Nat.{ℕ, ◌*◌, ◌≤◌, ◌<◌}
 use mathlib.Core.List.{List}
 use mathlib.Core.Path.{◌≡◌, sym, ◌∙◌}

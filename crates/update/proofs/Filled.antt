@@ -1,9 +1,9 @@
 -- The gradients after a step, place by place. Assumes nothing.
 --
 -- Main theorems:
---   shifted_to-at: each of the first k gradients is what it was, plus the sum of both rows' changes, which is rounded first
---   shifted_to-other: all from place k on is as it was
---   length-shifted_to: the list is as long as before
+--   shifted_to_at: each of the first k gradients is what it was, plus the sum of both rows' changes, which is rounded first
+--   shifted_to_other: all from place k on is as it was
+--   length_shifted_to: the list is as long as before
 use Prim.Native.Nat.{ℕ, ◌≤◌, ◌<◌}
 use mathlib.Core.Path.{◌≡◌, refl}
 use native.Mathlib.Omega.{arith}

@@ -1,12 +1,12 @@
 -- What an update leaves at each place. Assumes nothing.
 --
 -- Main theorems:
---   length-updated: the list is as long as before
---   alpha-i: position i has the new weight and the ceiling that it had in the step, where i and j are two; `alpha-j` for j; `alpha-other`: all others as before
+--   length_updated: the list is as long as before
+--   alpha_i: position i has the new weight and the ceiling that it had in the step, where i and j are two; `alpha_j` for j; `alpha_other`: all others as before
 --   behind: linear terms, the diagonal, the row and all behind are as before
---   gradient-active: the gradient of an active position after the step; `gradient-inactive`: the others' are as before
---   fixed-reached: the fixed gradient of a position that j's turn reaches has both turns, i's first, where i and j are two
---   fixed-beyond: that of the others has i's turn alone
+--   gradient_active: the gradient of an active position after the step; `gradient_inactive`: the others' are as before
+--   fixed_reached: the fixed gradient of a position that j's turn reaches has both turns, i's first, where i and j are two
+--   fixed_beyond: that of the others has i's turn alone
 use Prim.Native.Nat.{ℕ, ◌+◌, ◌*◌, ◌≤◌, ◌<◌}
 use native.Mathlib.Decide.{ℕ_discrete}
 use native.Mathlib.Omega.{arith}

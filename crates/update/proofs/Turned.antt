@@ -1,10 +1,10 @@
 -- What a position's new weight brings to the fixed gradient. Assumes nothing.
 --
 -- Main theorems:
---   taken-away: a negated multiple that is added is the multiple that is taken away, bit for bit
+--   taken_away: a negated multiple that is added is the multiple that is taken away, bit for bit
 --   kept: where a position stays at upper, or off it, the list is as it was
 --   told: else its row is added to the fixed gradients, times its ceiling, negated where it was at upper
---   turned_by-at: what a fixed gradient becomes; `turned_by-other`: all else is as it was; `length-turned_by`: the length too
+--   turned_by_at: what a fixed gradient becomes; `turned_by_other`: all else is as it was; `length_turned_by`: the length too
 use Prim.Native.Nat.{ℕ, ◌+◌, ◌<◌}
 use native.Mathlib.Nat.{zero-add}
 use native.Mathlib.Omega.{arith}

@@ -1,6 +1,6 @@
 -- The tuned C functions: each entry under a tuning t of eight-byte words, over the host's bytes, with its own working room and an answer of 128 bytes.
 use Rattle.std.specs.Prelude.{ℕ, Bool, true, ◌&&◌, List, eqb, leb, length}
-use Rattle.classification.specs.Entries.{general_tuned_sized, fit_cTuned_sized, fit_nu_tuned_sized, fit_one_class_tuned_sized}
+use Rattle.classification.specs.Entries.{general_tuned_sized, fit_c_tuned_sized, fit_nu_tuned_sized, fit_one_class_tuned_sized}
 use Rattle.hosted.specs.Hosted.{is_on, as_float, tuning_known, tuning_of, floats_of, byte_sizes, general_inputs, room, Handed, delivered, hosted_wide}
 
 -- refusals 1 and 2: `inputs` says whether every other input list is right
@@ -20,7 +20,7 @@ unfoldable pub c_tuned_host : ℕ → List ℕ → List ℕ → ℕ → ℕ → 
 c_tuned_host n m l cpos cneg eps shrinking budget t cr h an =
     hosted_wide
     (wide_sizes n (eqb (length l) n) m t cr h an)
-    (delivered n (fit_cTuned_sized (tuning_of t) n m l (as_float cpos) (as_float cneg) (as_float eps) (is_on shrinking) budget room) cr h an)
+    (delivered n (fit_c_tuned_sized (tuning_of t) n m l (as_float cpos) (as_float cneg) (as_float eps) (is_on shrinking) budget room) cr h an)
     cr
     h
     an

@@ -1,5 +1,6 @@
 // The tuned C functions' bodies: an entry under a tuning t of eight-byte words, with an answer of 128 bytes.
 #![tactic(auto)]
+
 ghost use Rattle.std.specs.Prelude.{◌≡◌};
 ghost use Rattle.hosted.specs.Hosted.{Handed, handed};
 ghost use Rattle.wide.specs.Wide.{general_tuned_host, c_tuned_host, nu_tuned_host, one_class_tuned_host};

@@ -3,18 +3,18 @@ use mathlib.Core.Path.{◌≡◌, refl}
 use native.Mathlib.Numerals.{add-one}
 use native.Mathlib.Omega.{arith}
 use lib.Ieee.{of_bits, div, neg}
-use Rattle.orderless.specs.End.{share_cOf}
+use Rattle.orderless.specs.End.{share_c_of}
 use Rattle.orderless.specs.Sheet.{read_in, ceilings_of, alpha_of}
 use Rattle.orderless.specs.Step.{slope}
 use borrow.Author.Rules.{rules}
 use Rattle.course.proofs.share_c.Goals as goal
 
 pub loop-k-init : goal.loop-k-init
-unfolding share_cOf div neg of_bits
+unfolding share_c_of div neg of_bits
 loop-k-init c = (search rules, refl, search rules)
 
 pub loop-k-preserved : goal.loop-k-preserved
-unfolding share_cOf
+unfolding share_c_of
 loop-k-preserved c =
     let v = c.loop-k.invariant in
     (search rules, rw add-one (rw (c.sign.ensures, c.slope.ensures, c.alpha_in-w.ensures, v.1) at c.weigh-s.ensures.0), omega (arith, c.weigh-s.ensures.1, v.2))

@@ -3,7 +3,7 @@ use mathlib.Core.Path.{◌≡◌, refl}
 use native.Mathlib.Numerals.{add-one}
 use native.Mathlib.Omega.{arith}
 use lib.Ieee.{of_bits, div, neg}
-use Rattle.orderless.specs.End.{share_cOf}
+use Rattle.orderless.specs.End.{share_c_of}
 use Rattle.orderless.specs.Sheet.{read_in, ceilings_of, alpha_of}
 use Rattle.orderless.specs.Step.{slope}
 use borrow.Author.Rules.{rules}
@@ -11,4 +11,4 @@ use Rattle.course.proofs.share_c.Given as goal
 
 abbrev pub invariant-loop-k : goal.invariant-loop-k
 invariant-loop-k l = let o = read_in l.g.nu l.g.n l.f in
-    (l.k ≤ l.n) × (l.s ≡ share_cOf l.y (alpha_of l.y (ceilings_of l.cpos l.cneg) o) (slope l.g l.m l.y (ceilings_of l.cpos l.cneg) o) l.k) × (l.s.free ≤ l.k)
+    (l.k ≤ l.n) × (l.s ≡ share_c_of l.y (alpha_of l.y (ceilings_of l.cpos l.cneg) o) (slope l.g l.m l.y (ceilings_of l.cpos l.cneg) o) l.k) × (l.s.free ≤ l.k)

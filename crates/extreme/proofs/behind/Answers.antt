@@ -1,4 +1,3 @@
-use borrow.Author.Rules.{rules}
 use Rattle.extreme.specs.Racing.{raced}
 use Rattle.extreme.proofs.behind.Goals as goal
 

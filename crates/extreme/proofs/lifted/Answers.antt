@@ -1,4 +1,3 @@
-use borrow.Author.Rules.{rules}
 use Rattle.extreme.proofs.lifted.Goals as goal
 
 pub returns-then-may-v : goal.returns-then-may-v

@@ -1,4 +1,3 @@
-use borrow.Author.Rules.{rules}
 use Rattle.extreme.proofs.taken.Goals as goal
 
 pub returns : goal.returns

@@ -2,7 +2,7 @@ use mathlib.Core.Path.{sym, ◌∙◌}
 use borrow.Author.Tests.{eq-eqb, ne_eqb}
 use lib.ListN.{length}
 use Rattle.judge.proofs.Lengths.{inputs_of, room_of, long_enough}
-use Rattle.classification.specs.Entries.{entered, fit_cTuned}
+use Rattle.classification.specs.Entries.{entered, fit_c_tuned}
 use borrow.Author.Rules.{rules}
 use Rattle.fit_c.proofs.fit_c_tuned.Goals as goal
 
@@ -13,9 +13,9 @@ sized-requires c =
     (room_of _ _ _ _ _ _ _ _ h, long_enough s.args.n (length s.args.l.now) (inputs_of _ _ _ _ _ _ _ _ h))
 
 pub returns-then-s-eq0 : goal.returns-then-s-eq0
-unfolding fit_cTuned entered
+unfolding fit_c_tuned entered
 returns-then-s-eq0 c = rw (← c.sized-s.ensures, eq-eqb _ _ c.if-s-eq0.true) c.sized.ensures
 
 pub returns : goal.returns
-unfolding fit_cTuned entered
+unfolding fit_c_tuned entered
 returns c = rw (← c.sized-s.ensures, ne_eqb _ _ c.if-s-eq0.false)

@@ -1,5 +1,5 @@
 use mathlib.Core.Path.{sym, ◌∙◌}
-use Rattle.classification.specs.Entries.{decided, fit_cTuned_sized}
+use Rattle.classification.specs.Entries.{decided, fit_c_tuned_sized}
 use Rattle.classification.proofs.Laws.{usable_c}
 use Rattle.judge.proofs.Accepted.{floor_fine}
 use borrow.Author.Rules.{rules}
@@ -15,9 +15,9 @@ started-requires c =
     (s.requires.0, q.matrix, q.budget_most, s.requires.1)
 
 pub returns-in-Fine : goal.returns-in-Fine
-unfolding fit_cTuned_sized decided
+unfolding fit_c_tuned_sized decided
 returns-in-Fine c = rw (← c.c_judged-j10.ensures, ← c.floor_judged-j.ensures, c.in-Fine.is) c.started.ensures
 
 pub returns-in-Bad : goal.returns-in-Bad
-unfolding fit_cTuned_sized decided
+unfolding fit_c_tuned_sized decided
 returns-in-Bad c = rw (← c.c_judged-j10.ensures, ← c.floor_judged-j.ensures, c.in-Bad.is)

@@ -1,5 +1,4 @@
 use Rattle.modes.specs.Modes.{travels}
-use borrow.Author.Rules.{rules}
 use Rattle.modes.proofs.travels.Goals as goal
 
 pub returns-in-Crate : goal.returns-in-Crate

@@ -5,9 +5,6 @@ use Rattle.picks.proofs.Steps.{one_first}
 use borrow.Author.Rules.{rules}
 use Rattle.picks.proofs.eight.Goals as goal
 
-pub overflow_add-t : goal.overflow_add-t
-overflow_add-t c = search rules
-
 pub raced_to-requires : goal.raced_to-requires
 raced_to-requires c = let P = c.requires in (P.0, P.1, omega arith, P.2, P.3, P.4)
 

@@ -1,10 +1,7 @@
-use Prim.Native.Nat.{◌-◌, ◌≤◌}
-use mathlib.Core.Path.{◌≡◌, refl}
-use native.Mathlib.Numerals.{add-one}
-use native.Mathlib.Omega.{arith}
+use Prim.Native.Nat.{◌≤◌}
+use mathlib.Core.Path.{◌≡◌}
 use lib.ListN.{length}
 use Rattle.readings.specs.Order.{gathered, weight_in}
-use borrow.Author.Rules.{rules}
 use Rattle.readings.proofs.read_crate.Given as goal
 
 abbrev pub invariant-loop-i : goal.invariant-loop-i

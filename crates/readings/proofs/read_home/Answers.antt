@@ -1,9 +1,7 @@
-use Prim.Native.Nat.{◌-◌, ◌≤◌}
 use mathlib.Core.Path.{◌≡◌, refl}
 use native.Mathlib.Numerals.{add-one}
 use native.Mathlib.Omega.{arith}
-use lib.ListN.{length}
-use Rattle.readings.specs.Order.{scattered, weight_in}
+use Rattle.readings.specs.Order.{scattered}
 use borrow.Author.Rules.{rules}
 use Rattle.readings.proofs.read_home.Goals as goal
 

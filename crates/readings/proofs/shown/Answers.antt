@@ -1,4 +1,3 @@
-use borrow.Author.Rules.{rules}
 use Rattle.readings.proofs.shown.Goals as goal
 
 pub returns-in-Crate : goal.returns-in-Crate

@@ -1,4 +1,3 @@
-use borrow.Author.Rules.{rules}
 use Rattle.wire.proofs.put_float.Goals as goal
 
 pub returns : goal.returns

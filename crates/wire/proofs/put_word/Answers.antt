@@ -2,7 +2,6 @@ use native.Mathlib.Nat.{add-zero, div-one}
 use native.Mathlib.Omega.{arith}
 use lib.ListN.{length-set}
 use Rattle.wire.specs.Wire.{with_digits}
-use borrow.Author.Rules.{rules}
 use Rattle.wire.proofs.put_word.Goals as goal
 
 pub bounds-b-at-2 : goal.bounds-b-at-2

@@ -1,4 +1,3 @@
-use borrow.Author.Rules.{rules}
 use Rattle.alpha.proofs.Alpha.clipped.Goals as goal
 
 pub returns-then-self : goal.returns-then-self

@@ -7,8 +7,5 @@ use Rattle.telling.proofs.room.alternate.Goals as goal
 pub loop-k-init : goal.loop-k-init
 loop-k-init c = refl
 
-pub loop-k-preserved : goal.loop-k-preserved
-loop-k-preserved c = search rules
-
 pub returns : goal.returns
 returns c = tt

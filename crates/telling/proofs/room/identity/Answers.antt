@@ -7,8 +7,5 @@ use Rattle.telling.proofs.room.identity.Goals as goal
 pub loop-at-init : goal.loop-at-init
 loop-at-init c = refl
 
-pub loop-at-preserved : goal.loop-at-preserved
-loop-at-preserved c = search rules
-
 pub returns : goal.returns
 returns c = tt
