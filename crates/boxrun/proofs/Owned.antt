@@ -75,20 +75,20 @@ entry_signed true x e = e
 entry_signed false x e = entry_neg x e
 
 module _ {p : Problem} (entries : (k : ℕ) → k < p.side * p.side → Entry (float_at p.matrix (8 * k))) {s : State} (w : Owned p s) where
-  entry_at_law_law : (c r : ℕ) → c < p.side → r < p.side → Entry (entry_at p.side p.matrix c r)
-  entry_at_law_law c r hc hr = entries (c * p.side + r) (inside w.ready.matrix c r hc hr).entry
+  entry_at_law : (c r : ℕ) → c < p.side → r < p.side → Entry (entry_at p.side p.matrix c r)
+  entry_at_law c r hc hr = entries (c * p.side + r) (inside w.ready.matrix c r hc hr).entry
 
   pub entry_diagonal : (k : ℕ) → k < p.n → Entry (diagonal p s k)
   entry_diagonal k h =
       let c = kernel_index p.n s.numbers k in
       let l = w.ready.indexed.below k h in
-      rw (w.own c l) (entry_at_law_law c c l l)
+      rw (w.own c l) (entry_at_law c c l l)
 
   pub entry_row : (i k : ℕ) → i < p.n → k < p.n → Entry (row p s i k)
   unfolding row_at
   entry_row i k hi hk =
       entry_signed (alike_of p.kind (get_or s.labels i 0) (get_or s.labels k 0)) (entry_at p.side p.matrix (kernel_index p.n s.numbers i) (kernel_index p.n s.numbers k))
-      (entry_at_law_law (kernel_index p.n s.numbers i) (kernel_index p.n s.numbers k) (w.ready.indexed.below i hi) (w.ready.indexed.below k hk))
+      (entry_at_law (kernel_index p.n s.numbers i) (kernel_index p.n s.numbers k) (w.ready.indexed.below i hi) (w.ready.indexed.below k hk))
 
 -- ---- what keeps it
 

@@ -50,15 +50,15 @@ small_fields f s (suc x) t k a b c =
 
 -- ---- a small pattern is a small number
 
-at_most_law_law : (p m a t q r : ℕ) → a ≡ p + m → a ≤ t → q ≡ t → r ≡ 0 → (p + r ≤ q + m) × (r + m ≤ p + q)
-at_most_law_law p m a t q r h l u v = (omega arith, omega arith)
+at_most_law : (p m a t q r : ℕ) → a ≡ p + m → a ≤ t → q ≡ t → r ≡ 0 → (p + r ≤ q + m) × (r + m ≤ p + q)
+at_most_law p m a t q r h l u v = (omega arith, omega arith)
 
 within : (x : Float) → T (fits binary64 x) → Small binary64 x (2 ^ 53 * 2 ^ 2014) → (le (neg limit) x ≡ true) × (le x limit ≡ true)
 within x fit s =
     let n : Number binary64 x = record { fit = fit; real = s.real } in
     let g = neg_parts binary64 limit limit_parts.number in
     let l : 2 ^ 53 * 2 ^ 2014 ≤ 2 ^ 2074 = lit≤ tt in
-    let b = at_most_law_law (plus binary64 x) (minus binary64 x) (magnitude binary64 x) (2 ^ 2074) (plus binary64 limit) (minus binary64 limit)
+    let b = at_most_law (plus binary64 x) (minus binary64 x) (magnitude binary64 x) (2 ^ 2074) (plus binary64 limit) (minus binary64 limit)
     (magnitude_is binary64 x) (le_trans s.most l) limit_parts.plus_is limit_parts.minus_is in
     let hi = (holds (le x limit)).0 ((compare binary64 x limit n limit_parts.number).most.1 b.0) in
     let lo = (holds (le (neg limit) x)).0 ((compare binary64 (neg limit) x g.number n).most.1 (rw (g.plus_is, g.minus_is) b.1)) in

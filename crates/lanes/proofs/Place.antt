@@ -179,11 +179,11 @@ module _ (f : List Float) (o n : ℕ) (nu : Bool) (c p : ℕ) (W : Wins f o n nu
       let e = end_least (16 * (k / 16)) n k (omega arith) l in
       (omega arith, omega arith)
 
-  at_most_law_law : (k : ℕ) → k < n → NotNan (value k) → T (le (least_in f o n (k / 16)) (value k))
-  at_most_law_law k l r = (least_in_law f o n (k / 16) (omega arith)).most (o + k) (in_part k l) r
+  at_most_law : (k : ℕ) → k < n → NotNan (value k) → T (le (least_in f o n (k / 16)) (value k))
+  at_most_law k l r = (least_in_law f o n (k / 16) (omega arith)).most (o + k) (in_part k l) r
 
   v_most : (k : ℕ) → k < n → NotNan (value k) → T (le v (value k))
-  v_most k l r = le_trans v (least_in f o n (k / 16)) (value k) (W.most (k / 16) (omega arith)) (at_most_law_law k l r)
+  v_most k l r = le_trans v (least_in f o n (k / 16)) (value k) (W.most (k / 16) (omega arith)) (at_most_law k l r)
 
   most : (k : ℕ) → k < n → NotNan (value k) → T (le (value p) (value k))
   most k l r = le_trans (value p) v (value k) same_both.0 (v_most k l r)
@@ -201,7 +201,7 @@ module _ (f : List Float) (o n : ℕ) (nu : Bool) (c p : ℕ) (W : Wins f o n nu
       (λ e.
       let q : k / 16 ≡ c = e ∙ in_own.0 in
       strictly (value k) (v_most k l r) (S.alone (o + k) (rw q at (in_part k l)) (shifted nu o p k b)))
-      (λ d. lt_le_trans v (least_in f o n (k / 16)) (value k) (W.strict (k / 16) (omega arith) (rw in_own.0 at d)) (at_most_law_law k l r))
+      (λ d. lt_le_trans v (least_in f o n (k / 16)) (value k) (W.strict (k / 16) (omega arith) (rw in_own.0 at d)) (at_most_law k l r))
       (sides nu p k b))
 
   real : NotNan (value p)

@@ -61,9 +61,9 @@ module _ (k : Fit) (m : List ℕ) (d : Lent) (t u : ℕ) where
 
 -- ---- each step is the finder's, under the ceilings of the mode, with shrinking on or off
 
-found_at_law_law : (p : Problem) (mode : Mode) (b : List Float) (s : State) (i j : ℕ) → pair_at p b mode floor s i j ≡ found_at p mode b s i j
+found_at_law : (p : Problem) (mode : Mode) (b : List Float) (s : State) (i j : ℕ) → pair_at p b mode floor s i j ≡ found_at p mode b s i j
 unfolding pair_at found_pair
-found_at_law_law p mode b s i j = refl
+found_at_law p mode b s i j = refl
 
 module _ {k : Fit} {m : List ℕ} {budget : ℕ} {d : Lent} {o : Whole} (v : Served k m budget d o) where
   pub served_found : k.given.floor ≡ floor → (q : ℕ) → q < length (steps_taken k m d budget) → FoundStep k m d budget q
@@ -74,7 +74,7 @@ module _ {k : Fit} {m : List ℕ} {budget : ℕ} {d : Lent} {o : Whole} (v : Ser
       let e = each_step g m k.ceilings _ budget q no_step h in
       let w = runs_owned g m k.ceilings q (start_from k m d) (ready_start v) in
       let l = step_left g m k.ceilings (after k m d q) x.i x.j w.active w.kept.ready.floats e.pair in
-      let z = ap (λ (f : Float). pair_at (problem_of g m) k.ceilings g.mode f s x.i x.j) plain ∙ found_at_law_law (problem_of g m) g.mode k.ceilings s x.i x.j in (
+      let z = ap (λ (f : Float). pair_at (problem_of g m) k.ceilings g.mode f s x.i x.j) plain ∙ found_at_law (problem_of g m) g.mode k.ceilings s x.i x.j in (
         ap (λ (y : Step). y.left_i) e.is ∙ l.pair_i ∙ ap (λ (q : Update.Pair). q.i.value) z,
         ap (λ (y : Step). y.left_j) e.is ∙ l.pair_j ∙ ap (λ (q : Update.Pair). q.j.value) z,
       )

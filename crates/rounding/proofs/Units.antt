@@ -167,9 +167,9 @@ module _ (f : Format) where
   bits : Bool → ℕ → ℕ
   bits s n = let k = size n - prec f in cond s (top f) 0 + k * hid f + n / 2 ^ k
 
-  of_bits_law_law : (s : Bool) (m : ℕ) (e : ℤ) → Number f (fin s m e) → of_bits f (bits s (magnitude f (fin s m e))) ≡ fin s m e
+  of_bits_law : (s : Bool) (m : ℕ) (e : ℤ) → Number f (fin s m e) → of_bits f (bits s (magnitude f (fin s m e))) ≡ fin s m e
   unfolding to_bits bits
-  of_bits_law_law s m e p = of_bits-to_bits f (fin s m e) p.fit
+  of_bits_law s m e p = of_bits-to_bits f (fin s m e) p.fit
 
   far : (w : ℕ) → w < overflow f → infinite f ≡ w → ⊥
   far w h e = omega arith
@@ -182,7 +182,7 @@ module _ (f : Format) where
   same_number (inf s) (fin t n d) p q h k = absurd (far (magnitude f (fin t n d)) (value f t n d q).small k)
   same_number (fin s m e) nan p q h k = absurd q.real
   same_number (fin s m e) (inf t) p q h k = absurd (far (magnitude f (fin s m e)) (value f s m e p).small (sym k))
-  same_number (fin s m e) (fin t n d) p q h k = sym (of_bits_law_law s m e p) ∙ ap₂ (λ (b : Bool) (w : ℕ). of_bits f (bits b w)) h k ∙ of_bits_law_law t n d q
+  same_number (fin s m e) (fin t n d) p q h k = sym (of_bits_law s m e p) ∙ ap₂ (λ (b : Bool) (w : ℕ). of_bits f (bits b w)) h k ∙ of_bits_law t n d q
 
   -- and by its parts, where it is no zero
   pub same_parts : (x y : Float) → Number f y → Parts f x (plus f y) (minus f y) → 0 < plus f x + minus f x → x ≡ y

@@ -1,4 +1,3 @@
-use Rattle.std.proofs.Common.{rules}
 use Rattle.floats.proofs.whole_product.Goals as goal
 
 pub returns : goal.returns

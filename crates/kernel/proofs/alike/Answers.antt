@@ -1,4 +1,3 @@
-use borrow.Author.Rules.{rules}
 use Rattle.kernel.proofs.alike.Goals as goal
 
 pub returns-in-TwoClass : goal.returns-in-TwoClass

@@ -1,5 +1,4 @@
 use Rattle.kernel.specs.Row.{row_at}
-use borrow.Author.Rules.{rules}
 use Rattle.kernel.proofs.distance.Goals as goal
 
 pub returns : goal.returns

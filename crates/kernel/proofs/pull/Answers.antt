@@ -1,7 +1,6 @@
 use lib.ListN.{get_or}
 use Rattle.kernel.specs.Matrix.{entry_at}
 use Rattle.kernel.specs.Row.{kernel_index, alike_of}
-use borrow.Author.Rules.{rules}
 use Rattle.kernel.proofs.Laws.{sign_moves}
 use Rattle.kernel.proofs.pull.Goals as goal
 

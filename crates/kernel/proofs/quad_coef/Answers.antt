@@ -1,4 +1,3 @@
-use borrow.Author.Rules.{rules}
 use Rattle.kernel.proofs.Laws.{curved_once}
 use Rattle.kernel.proofs.quad_coef.Goals as goal
 

@@ -1,4 +1,3 @@
-use borrow.Author.Rules.{rules}
 use Rattle.tuning.proofs.plain.Goals as goal
 
 pub returns : goal.returns

@@ -1,8 +1,7 @@
-use Prim.Native.Nat.{◌≤◌, ◌-◌}
 use mathlib.Core.Path.{◌≡◌, refl}
 use native.Mathlib.Numerals.{add-one}
 use native.Mathlib.Omega.{arith}
-use Rattle.recorded.specs.Agree.{same_below, loose_in, loose_from}
+use Rattle.recorded.specs.Agree.{same_below}
 use borrow.Author.Rules.{rules}
 use Rattle.recorded.proofs.agree.answer_told.Goals as goal
 

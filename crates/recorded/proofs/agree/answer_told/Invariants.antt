@@ -1,9 +1,6 @@
-use Prim.Native.Nat.{◌≤◌, ◌-◌}
-use mathlib.Core.Path.{◌≡◌, refl}
-use native.Mathlib.Numerals.{add-one}
-use native.Mathlib.Omega.{arith}
+use Prim.Native.Nat.{◌≤◌}
+use mathlib.Core.Path.{◌≡◌}
 use Rattle.recorded.specs.Agree.{same_below, loose_in, loose_from}
-use borrow.Author.Rules.{rules}
 use Rattle.recorded.proofs.agree.answer_told.Given as goal
 
 abbrev pub invariant-loop-k : goal.invariant-loop-k

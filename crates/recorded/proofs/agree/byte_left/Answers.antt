@@ -1,7 +1,6 @@
 use borrow.Author.Tests.{lt-ltb, le-ltb}
 use mathlib.Core.Path.{refl}
 use Rattle.recorded.specs.Agree.{left_of}
-use borrow.Author.Rules.{rules}
 use Rattle.recorded.proofs.agree.byte_left.Goals as goal
 
 pub returns-then-k-used : goal.returns-then-k-used

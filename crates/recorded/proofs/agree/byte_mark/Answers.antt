@@ -1,6 +1,5 @@
 use mathlib.Core.Path.{refl}
 use Rattle.recorded.specs.Agree.{byte_mark_of}
-use borrow.Author.Rules.{rules}
 use Rattle.recorded.proofs.agree.byte_mark.Goals as goal
 
 pub returns : goal.returns

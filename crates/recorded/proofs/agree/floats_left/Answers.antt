@@ -1,9 +1,8 @@
-use Prim.Native.Nat.{◌≤◌, ◌-◌}
 use mathlib.Core.Path.{◌≡◌, refl}
 use native.Mathlib.Numerals.{add-one}
 use native.Mathlib.Omega.{arith}
 use lib.ListN.{length}
-use Rattle.recorded.specs.Agree.{same_below, pattern_in, left_of, mark_of}
+use Rattle.recorded.specs.Agree.{same_below}
 use borrow.Author.Rules.{rules}
 use Rattle.recorded.proofs.agree.floats_left.Goals as goal
 

@@ -1,9 +1,8 @@
-use Prim.Native.Nat.{◌≤◌, ◌-◌}
 use mathlib.Core.Path.{◌≡◌, refl}
 use native.Mathlib.Numerals.{add-one}
 use native.Mathlib.Omega.{arith}
 use lib.ListN.{length}
-use Rattle.recorded.specs.Agree.{marks_to, byte_mark_of}
+use Rattle.recorded.specs.Agree.{marks_to}
 use borrow.Author.Rules.{rules}
 use Rattle.recorded.proofs.agree.mark_bytes.Goals as goal
 

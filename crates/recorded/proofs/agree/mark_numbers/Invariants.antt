@@ -1,10 +1,7 @@
-use Prim.Native.Nat.{◌≤◌, ◌-◌}
-use mathlib.Core.Path.{◌≡◌, refl}
-use native.Mathlib.Numerals.{add-one}
-use native.Mathlib.Omega.{arith}
+use Prim.Native.Nat.{◌≤◌}
+use mathlib.Core.Path.{◌≡◌}
 use lib.ListN.{length}
 use Rattle.recorded.specs.Agree.{marks_to, mark_of}
-use borrow.Author.Rules.{rules}
 use Rattle.recorded.proofs.agree.mark_numbers.Given as goal
 
 abbrev pub invariant-loop-k : goal.invariant-loop-k

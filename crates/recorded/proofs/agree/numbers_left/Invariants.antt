@@ -1,10 +1,6 @@
-use Prim.Native.Nat.{◌≤◌, ◌-◌}
-use mathlib.Core.Path.{◌≡◌, refl}
-use native.Mathlib.Numerals.{add-one}
-use native.Mathlib.Omega.{arith}
-use lib.ListN.{length}
+use Prim.Native.Nat.{◌≤◌}
+use mathlib.Core.Path.{◌≡◌}
 use Rattle.recorded.specs.Agree.{same_below, number_in, left_of, mark_of}
-use borrow.Author.Rules.{rules}
 use Rattle.recorded.proofs.agree.numbers_left.Given as goal
 
 abbrev pub invariant-loop-k : goal.invariant-loop-k

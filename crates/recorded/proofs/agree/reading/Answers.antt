@@ -1,6 +1,5 @@
 use borrow.Author.Tests.{lt-ltb, le-ltb}
 use Rattle.recorded.specs.Agree.{reading_of}
-use borrow.Author.Rules.{rules}
 use Rattle.recorded.proofs.agree.reading.Goals as goal
 
 pub returns-then-k-n : goal.returns-then-k-n

@@ -1,6 +1,5 @@
 use native.Mathlib.Omega.{arith}
 use Rattle.recorded.specs.Record.{alphas_at}
-use borrow.Author.Rules.{rules}
 use Rattle.recorded.proofs.layout.alphas_at.Goals as goal
 
 pub returns : goal.returns

@@ -1,7 +1,6 @@
 use borrow.Author.Tests.{eq-eqb, ne_eqb}
 use native.Mathlib.Omega.{arith}
 use Rattle.recorded.specs.Record.{answer_at}
-use borrow.Author.Rules.{rules}
 use Rattle.recorded.proofs.layout.answer_at.Goals as goal
 
 pub returns-then-word-eq4 : goal.returns-then-word-eq4

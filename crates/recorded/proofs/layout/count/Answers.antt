@@ -1,7 +1,6 @@
 use borrow.Author.Tests.{lt-ltb, le-ltb}
 use native.Mathlib.Omega.{arith}
 use Rattle.recorded.specs.Record.{count_of}
-use borrow.Author.Rules.{rules}
 use Rattle.recorded.proofs.layout.count.Goals as goal
 
 pub returns-then-w-most : goal.returns-then-w-most

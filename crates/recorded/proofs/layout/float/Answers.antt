@@ -1,4 +1,3 @@
-use borrow.Author.Rules.{rules}
 use Rattle.recorded.proofs.layout.float.Goals as goal
 
 pub returns : goal.returns

@@ -3,7 +3,6 @@ use Prim.Native.Nat.{◌+◌, ◌*◌, ◌-◌}
 use borrow.Author.Tests.{le-leb, lt-leb}
 use native.Mathlib.Omega.{arith}
 use Rattle.recorded.specs.Record.{part_of}
-use borrow.Author.Rules.{rules}
 use Rattle.recorded.proofs.layout.part.Goals as goal
 
 pub returns-then-e-b : goal.returns-then-e-b

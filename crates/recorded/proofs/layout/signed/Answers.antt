@@ -1,6 +1,5 @@
 use borrow.Author.Tests.{lt-ltb, le-ltb}
 use Rattle.recorded.specs.Record.{signed_byte}
-use borrow.Author.Rules.{rules}
 use Rattle.recorded.proofs.layout.signed.Goals as goal
 
 pub returns-then-w-lt128 : goal.returns-then-w-lt128

@@ -1,7 +1,6 @@
 use borrow.Author.Tests.{eq-eqb, ne_eqb}
 use native.Mathlib.Omega.{arith}
 use Rattle.recorded.specs.Record.{used_of}
-use borrow.Author.Rules.{rules}
 use Rattle.recorded.proofs.layout.used.Goals as goal
 
 pub returns-then-word-eq11 : goal.returns-then-word-eq11

@@ -1,7 +1,6 @@
 use borrow.Author.Tests.{lt-ltb, le-ltb}
 use mathlib.Core.Path.{refl}
 use Rattle.recorded.specs.Record.{word_of}
-use borrow.Author.Rules.{rules}
 use Rattle.recorded.proofs.layout.word.Goals as goal
 
 pub returns-then-k-b : goal.returns-then-k-b
