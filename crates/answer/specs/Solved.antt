@@ -8,7 +8,6 @@ use Rattle.solver.specs.End.{objective_of, trained}
 use Rattle.solver.specs.Run.{Full}
 use Rattle.solver.specs.declared.Given.{Given}
 use Rattle.solver.specs.declared.Status.{Status}
-use Rattle.solver.specs.declared.Status.TheVariants as Status
 use Rattle.state.specs.Lists.{State, state}
 use Rattle.answer.specs.Answer.{finished_to, support_of, rho_of, obj_of, ratio_of, reason_of}
 use Rattle.answer.specs.Lent.{Lent, Whole, whole, cleared}

@@ -4,7 +4,6 @@ use mathlib.Core.Bool.{Bool, true, false, not, cond}
 use lib.Dec.{T, lit<}
 use lib.Ieee.{Float, binary64, neg, add, sub, mul, lt, le}
 use lib.Ieee.Fits.{add-fits}
-use lib.Ieee.Scale.{finite}
 use Rattle.alpha.specs.Weight.{zero, two, limit}
 use Rattle.rounding.specs.Units.{NotNan, Within}
 use Rattle.rounding.proofs.Order.{neg_neg, le_real, lt_real, not_le}

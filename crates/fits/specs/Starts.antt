@@ -1,7 +1,7 @@
 -- What each fit starts from (the rule, section 'Fits'): lists of 512 places, of which the first n count.
 use Rattle.std.specs.Prelude.{ℕ, zero, suc, Bool, true, false, cond, List, eqb, ltb, Float, get_or, set, replicate}
 use Rattle.std.specs.Float.{binary64}
-use Rattle.std.specs.Float.Ieee.{neg, sub, mul, div}
+use Rattle.std.specs.Float.Ieee.{sub, mul, div}
 use Rattle.alpha.specs.Weight as Weight
 use Rattle.alpha.specs.Weight.{one, two}
 use Rattle.lists.specs.Filled.{filled_to}

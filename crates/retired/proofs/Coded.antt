@@ -6,7 +6,7 @@ use mathlib.Core.Path.{◌≡◌, refl, sym, ap, ◌∙◌}
 use borrow.Author.Tests.{ltb-true, ltb-false}
 use native.Mathlib.Omega.{arith}
 use lib.Dec.{ltb}
-use lib.Ieee.{Float, nan, eq, of_bits}
+use lib.Ieee.{Float, nan, eq}
 use lib.ListN.{length, get_or, set, length-set}
 use lib.Seq.{set-get_or, get_or-set_other, ext_get_or}
 use Rattle.alpha.specs.Weight as Weight

@@ -18,7 +18,6 @@ use Rattle.modes.specs.Modes.{repaired}
 use Rattle.rho.specs.declared.Level.{Level}
 use Rattle.solver.specs.Run.{Full}
 use Rattle.solver.specs.declared.Given.{Given}
-use Rattle.state.specs.Lists.{state}
 use Rattle.tuning.specs.Tuning.{plain_tuning}
 use Rattle.tuning.specs.declared.Tuning.{Tuning}
 

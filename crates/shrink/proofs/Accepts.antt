@@ -1,11 +1,11 @@
 -- A walk that ends at the current count is never refused. Assumes nothing.
-use Prim.Native.Nat.{ℕ, zero, suc, ◌≤◌}
+use Prim.Native.Nat.{ℕ, zero, suc}
 use mathlib.Core.Bool.{Bool, true, false, cond, true≢false}
 use mathlib.Core.Path.{◌≡◌, refl, sym, ◌∙◌}
 use native.Mathlib.Omega.{arith}
 use borrow.Author.Tests.{le-leb}
 use lib.Dec.{leb}
-use Rattle.shrink.specs.Walk.{Walking, count_fallen, exchanged, dropped, visited, walked}
+use Rattle.shrink.specs.Walk.{Walking, exchanged, dropped, visited, walked}
 
 module _ {S : Type 0} (drops : S → ℕ → Bool) (swap : S → ℕ → ℕ → S) where
   -- below the current count there is one to fall from

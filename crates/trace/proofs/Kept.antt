@@ -26,7 +26,7 @@ use Rattle.shrink.specs.Drops.{drops_at}
 use Rattle.shrink.specs.declared.Limits.{Limits}
 use Rattle.shrink.proofs.Walks.{walks}
 use Rattle.start.specs.Start.{started}
-use Rattle.state.specs.Lists.{State, state, over}
+use Rattle.state.specs.Lists.{State, over}
 use Rattle.state.specs.Moving.{moved}
 use Rattle.solver.specs.End.{closed, trained}
 use Rattle.solver.specs.Pass.{ten, chosen, rebuilt, refreshed, tops_of, restored, walked_from, shrunk, counted_down, stepped, looked, worked_by, onward, passed, next, runs}

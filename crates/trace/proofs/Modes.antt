@@ -1,32 +1,30 @@
 -- The crate's run and the one whose ceilings travel are the same, pass for pass, with one common ceiling (`trained_common`), and with shrinking off
 -- (`trained_off`). Assumes nothing.
 use Prim.Native.Nat.{ℕ, zero, suc, ◌+◌, ◌*◌, ◌≤◌, ◌<◌}
-use mathlib.Core.Bool.{Bool, true, false, cond}
+use mathlib.Core.Bool.{Bool, true, false}
 use mathlib.Core.List.{List}
 use mathlib.Core.Path.{◌≡◌, refl, sym, ap, ◌∙◌}
 use native.Mathlib.Decide.{ℕ_discrete}
 use native.Mathlib.Omega.{arith}
 use lib.Ieee.{Float, nan, binary64, sub}
-use lib.ListN.{length, get_or, set}
+use lib.ListN.{length, set}
 use lib.Seq.{get_or-set_other}
 use Rattle.alpha.specs.Weight.{weight}
 use Rattle.extreme.specs.declared.Choice.{Choice}
 use Rattle.extreme.specs.declared.Choice.TheVariants.{Pair, Optimal}
 use Rattle.modes.specs.Modes.{travels, repaired}
-use Rattle.modes.specs.declared.Mode.{Mode}
 use Rattle.modes.specs.declared.Mode.TheVariants.{Crate, Travelling}
 use Rattle.reconstruct.specs.Reconstruct.{reconstructed}
 use Rattle.solver.specs.End.{closed, trained}
 use Rattle.solver.specs.Pass.{chosen, rebuilt, refreshed, tops_of, restored, walked_from, shrunk, counted_down, stepped, looked, worked_by, onward, passed, next, runs}
-use Rattle.solver.specs.Run.{problem_of, Full, with_run, goes, counter_at, ready_of, full}
+use Rattle.solver.specs.Run.{problem_of, Full, with_run, goes, counter_at}
 use Rattle.solver.specs.declared.Given.{Given}
 use Rattle.solver.proofs.Laws.{chosen_below}
-use Rattle.start.specs.Start.{started}
 use Rattle.state.specs.Fields.{alpha, bound}
 use Rattle.state.specs.Lists.{Problem, State, over}
 use Rattle.state.specs.Moving.{moved}
 use Rattle.state.proofs.Moves.{source, source_below, fields_at, length_fields}
-use Rattle.update.specs.Update.{ceiling_in, ceiling, counted_upper, j_reach, pair_at, shifted_to, stored, turned_by, settled, carried, updated, updated_state}
+use Rattle.update.specs.Update.{ceiling_in, ceiling, counted_upper, j_reach, pair_at, shifted_to, stored, settled, carried, updated, updated_state}
 use Rattle.update.specs.declared.Pair.{Pair as Two}
 use Rattle.update.proofs.Filled.{shifted_to_other}
 use Rattle.update.proofs.Left.{length_updated, alpha_i, alpha_j, alpha_other}

@@ -19,7 +19,6 @@ use Rattle.solver.specs.End.{closed, trained}
 use Rattle.solver.specs.Pass.{ten, chosen, rebuilt, refreshed, tops_c, tops_nu, tops_of, restored, walked_from, shrunk, counted_down, stepped, looked, worked_by, onward, passed, next, runs}
 use Rattle.solver.specs.Run.{problem_of, Full, with_run, goes, counter_at, active_at, reopened, period, ready_of, full}
 use Rattle.solver.specs.declared.Given.{Given}
-use Rattle.solver.specs.declared.Status.{Status}
 use Rattle.solver.specs.declared.Status.TheVariants.{Going, Done, Refused}
 use Rattle.start.specs.Start.{started}
 use Rattle.state.specs.Lists.{State}

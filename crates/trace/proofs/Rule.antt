@@ -15,7 +15,7 @@ use mathlib.Core.Path.{◌≡◌, refl, sym, ap, ◌∙◌}
 use native.Mathlib.Omega.{arith}
 use borrow.Author.Tests.{ne_eqb}
 use lib.Dec.{eqb, ltb}
-use lib.Ieee.{Float, binary64, add, mul, lt, le}
+use lib.Ieee.{Float, binary64, add, mul, le}
 use Rattle.choose_c.specs.Choice.{extremes_c, choice_c}
 use Rattle.choose_c.proofs.Rule.{risen_c, fallen_c, rises_c, falls_c, sum_c}
 use Rattle.choose_nu.specs.Choice.{risen, fallen, choice_nu}
@@ -23,7 +23,6 @@ use Rattle.choose_nu.proofs.Rule.{risen_nu, fallen_nu, rises_nu, falls_nu, sum_n
 use Rattle.extreme.specs.declared.Choice.{Choice}
 use Rattle.extreme.specs.declared.Choice.TheVariants.{Pair, Optimal}
 use Rattle.extreme.specs.Rule.{everybody}
-use Rattle.floats.specs.Helpers.{max_of}
 use Rattle.partner.specs.Rule.{Pairs, NoSecond, Sum}
 use Rattle.partner.specs.Second.{choice, second}
 use Rattle.partner.proofs.Rule.{chosen_by, choice_pair, choice_optimal, sum_is}
@@ -36,7 +35,6 @@ use Rattle.solver.specs.declared.Status.{Status}
 use Rattle.solver.specs.declared.Status.TheVariants.{Going, Done, Refused}
 use Rattle.solver.proofs.Laws.{counted_iterations}
 use Rattle.state.specs.Lists.{Problem, State}
-use Rattle.trace.specs.Rule as Words
 use Rattle.trace.specs.Rule.{Rises, Falls, is_below, Level, ByRule, NoPair, PairIn, NoPairIn, Stops, Ended}
 use Rattle.trace.specs.Trace.{look_at, pair_from, start_of}
 use Rattle.trace.proofs.Passes.{look_status, pass_steps, pair_look, Ends, pass_ends}

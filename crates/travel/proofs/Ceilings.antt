@@ -1,8 +1,8 @@
 -- Where ceilings travel, each position has its sample's own at each point of a run. Assumes nothing.
 use Prim.Native.Nat.{ℕ, ◌+◌, ◌*◌, ◌≤◌, ◌<◌}
-use mathlib.Core.Bool.{Bool, true, false, cond}
+use mathlib.Core.Bool.{true}
 use mathlib.Core.List.{List}
-use mathlib.Core.Path.{◌≡◌, refl, sym, ap, ◌∙◌}
+use mathlib.Core.Path.{◌≡◌, sym, ap, ◌∙◌}
 use native.Mathlib.Decide.{ℕ_discrete}
 use native.Mathlib.Nat.{zero-mul, zero-add}
 use native.Mathlib.Omega.{arith}
@@ -14,12 +14,11 @@ use Rattle.solver.specs.End.{trained}
 use Rattle.solver.specs.Pass.{runs}
 use Rattle.solver.specs.Run.{problem_of, Full}
 use Rattle.solver.specs.declared.Given.{Given}
-use Rattle.start.specs.Start.{started}
 use Rattle.state.specs.Fields.{alpha, sample}
 use Rattle.state.specs.Lists.{Problem, State, over}
 use Rattle.state.specs.Moving.{moved, swapped_fields}
 use Rattle.state.proofs.Moves.{source, source_below, fields_at, length_fields}
-use Rattle.trace.proofs.Kept.{Keeps, pair_keeps, runs_keeps, trained_keeps}
+use Rattle.trace.proofs.Kept.{pair_keeps, runs_keeps, trained_keeps}
 use Rattle.trace.proofs.Rests.{same_reconstructed, same_started}
 use Rattle.travel.specs.Travel.{OwnCeilings}
 use Rattle.update.specs.Update.{ceiling_in, ceiling, updated_state}

@@ -20,7 +20,7 @@ use Rattle.solver.specs.Pass.{runs}
 use Rattle.solver.specs.Run.{problem_of, Full}
 use Rattle.solver.specs.declared.Given.{Given}
 use Rattle.start.specs.Start.{started}
-use Rattle.state.specs.Lists.{Problem, State, state, Ready, over}
+use Rattle.state.specs.Lists.{Problem, State, Ready, over}
 use Rattle.state.specs.Moving.{swapped_fields, moved}
 use Rattle.state.proofs.Kept.{ready_floats, ready_moved}
 use Rattle.state.proofs.Moves.{source, source_below, fields_at}

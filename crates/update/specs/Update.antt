@@ -8,7 +8,7 @@ use Rattle.alpha.specs.declared.Alpha.{Alpha}
 use Rattle.modes.specs.Modes.{travels, repaired}
 use Rattle.modes.specs.declared.Mode.{Mode}
 use Rattle.rows.specs.Added.{row_added}
-use Rattle.state.specs.Lists.{Problem, State, state, over}
+use Rattle.state.specs.Lists.{Problem, State, over}
 use Rattle.state.specs.Fields.{gradient, alpha_in, alpha, diagonal, row, bound}
 use Rattle.update.specs.Pair.{pair_of}
 use Rattle.update.specs.declared.Pair.{Pair}

@@ -1,5 +1,4 @@
 use Rattle.answer.specs.Answer.{coefficient_of}
-use borrow.Author.Rules.{rules}
 use Rattle.answer.proofs.coefficient.Goals as goal
 
 pub returns-in-Plain : goal.returns-in-Plain

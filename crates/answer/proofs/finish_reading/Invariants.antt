@@ -1,10 +1,7 @@
-use Prim.Native.Nat.{◌≤◌, ◌-◌}
-use mathlib.Core.Path.{◌≡◌, refl}
-use native.Mathlib.Numerals.{add-one}
-use native.Mathlib.Omega.{arith}
+use Prim.Native.Nat.{◌≤◌}
+use mathlib.Core.Path.{◌≡◌}
 use lib.ListN.{length}
 use Rattle.answer.specs.Answer.{finished_to}
-use borrow.Author.Rules.{rules}
 use Rattle.answer.proofs.finish_reading.Given as goal
 
 abbrev pub invariant-loop-k : goal.invariant-loop-k

@@ -1,5 +1,4 @@
 use Rattle.answer.specs.Solved.{stuck}
-use borrow.Author.Rules.{rules}
 use Rattle.answer.proofs.is_stuck.Goals as goal
 
 pub returns-in-Going : goal.returns-in-Going

@@ -1,5 +1,4 @@
 use Rattle.answer.specs.Answer.{rho_of}
-use borrow.Author.Rules.{rules}
 use Rattle.answer.proofs.rho_of.Goals as goal
 
 pub returns-in-Plain : goal.returns-in-Plain

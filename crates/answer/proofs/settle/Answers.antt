@@ -2,7 +2,6 @@ use mathlib.Core.Path.{sym, ◌∙◌}
 use Rattle.solver.specs.Run.{full}
 use Rattle.answer.specs.Solved.{level_at, crate_of, home_of}
 use Rattle.answer.proofs.Laws.{settled_stuck, settled_fine}
-use borrow.Author.Rules.{rules}
 use Rattle.answer.proofs.settle.Goals as goal
 
 pub returns-then-is_stuck : goal.returns-then-is_stuck

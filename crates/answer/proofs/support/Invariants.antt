@@ -1,9 +1,6 @@
-use Prim.Native.Nat.{◌≤◌, ◌-◌}
-use mathlib.Core.Path.{◌≡◌, refl}
-use native.Mathlib.Numerals.{add-one}
-use native.Mathlib.Omega.{arith}
+use Prim.Native.Nat.{◌≤◌}
+use mathlib.Core.Path.{◌≡◌}
 use Rattle.answer.specs.Answer.{support_of}
-use borrow.Author.Rules.{rules}
 use Rattle.answer.proofs.support.Given as goal
 
 abbrev pub invariant-loop-k : goal.invariant-loop-k

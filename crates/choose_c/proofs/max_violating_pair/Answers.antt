@@ -1,10 +1,8 @@
-use Prim.Native.Nat.{◌≤◌, ◌-◌}
 use mathlib.Core.Path.{◌≡◌, refl}
 use native.Mathlib.Numerals.{add-one}
 use native.Mathlib.Omega.{arith}
 use lib.Ieee.{of_bits, div, neg}
 use Rattle.extreme.specs.Best.{best}
-use Rattle.state.specs.Lists.{problem, state}
 use Rattle.choose_c.specs.Choice.{extremes_c}
 use borrow.Author.Rules.{rules}
 use Rattle.choose_c.proofs.max_violating_pair.Goals as goal

@@ -2,7 +2,6 @@ use Rattle.partner.proofs.Steps.{by_label_law}
 use Rattle.state.specs.Lists.{problem, state}
 use Rattle.choose_c.specs.Choice.{lead_c, choice_c}
 use Rattle.choose_c.proofs.Rule.{lead_below}
-use borrow.Author.Rules.{rules}
 use Rattle.choose_c.proofs.select_working_set.Goals as goal
 
 pub chosen-requires : goal.chosen-requires

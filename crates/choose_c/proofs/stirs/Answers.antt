@@ -1,4 +1,3 @@
-use borrow.Author.Rules.{rules}
 use Rattle.choose_c.proofs.stirs.Goals as goal
 
 pub returns-then-pos : goal.returns-then-pos

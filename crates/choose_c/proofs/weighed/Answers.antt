@@ -1,4 +1,3 @@
-use borrow.Author.Rules.{rules}
 use Rattle.choose_c.proofs.weighed.Goals as goal
 
 pub returns : goal.returns

@@ -1,16 +1,8 @@
 use Prim.Native.Nat.{◌≤◌, ◌-◌}
-use mathlib.Core.Bool.{true, false}
-use mathlib.Core.Path.{◌≡◌, sym, ◌∙◌}
-use native.Mathlib.Numerals.{add-one}
-use lib.Ieee.{nan}
-use lib.ListN.{get_or}
-use Rattle.extreme.specs.Best.{best}
+use mathlib.Core.Path.{◌≡◌}
 use Rattle.kernel.specs.declared.Kind.TheVariants.{TwoClass}
-use Rattle.state.specs.Fields.{alpha_in, positive}
 use Rattle.state.specs.Lists.{problem, state}
-use Rattle.choose_nu.specs.Choice.{risen, fallen, extremes_nu}
-use Rattle.choose_nu.proofs.Calm.{calm}
-use borrow.Author.Rules.{rules}
+use Rattle.choose_nu.specs.Choice.{extremes_nu}
 use Rattle.choose_nu.proofs.calm_to.Given as goal
 
 -- no extreme asks for the kind

@@ -1,11 +1,9 @@
-use Prim.Native.Nat.{◌≤◌, ◌-◌}
 use mathlib.Core.Path.{◌≡◌, refl}
 use native.Mathlib.Numerals.{add-one}
 use native.Mathlib.Omega.{arith}
 use lib.Ieee.{of_bits, div, neg}
 use Rattle.extreme.specs.Best.{best}
-use Rattle.state.specs.Lists.{problem, state}
-use Rattle.choose_nu.specs.Choice.{risen, fallen, extremes_nu}
+use Rattle.choose_nu.specs.Choice.{risen, fallen}
 use borrow.Author.Rules.{rules}
 use Rattle.choose_nu.proofs.max_violating_pair_nu.Goals as goal
 

@@ -1,12 +1,7 @@
 use Prim.Native.Nat.{◌≤◌, ◌-◌}
-use mathlib.Core.Path.{◌≡◌, refl}
-use native.Mathlib.Numerals.{add-one}
-use native.Mathlib.Omega.{arith}
-use lib.Ieee.{of_bits, div, neg}
-use Rattle.extreme.specs.Best.{best}
+use mathlib.Core.Path.{◌≡◌}
 use Rattle.state.specs.Lists.{problem, state}
-use Rattle.choose_nu.specs.Choice.{risen, fallen, extremes_nu}
-use borrow.Author.Rules.{rules}
+use Rattle.choose_nu.specs.Choice.{extremes_nu}
 use Rattle.choose_nu.proofs.max_violating_pair_nu.Given as goal
 
 abbrev pub invariant-loop-k : goal.invariant-loop-k

@@ -2,7 +2,6 @@ use Rattle.partner.proofs.Steps.{by_label_law}
 use Rattle.state.specs.Lists.{problem, state}
 use Rattle.choose_nu.specs.Choice.{risen, choice_nu}
 use Rattle.choose_nu.proofs.Rule.{lead_below}
-use borrow.Author.Rules.{rules}
 use Rattle.choose_nu.proofs.select_working_set_nu.Goals as goal
 
 pub chosen-requires : goal.chosen-requires

@@ -1,7 +1,6 @@
 use Rattle.answer.specs.Lent.{lent}
 use Rattle.state.specs.Lists.{state}
 use Rattle.classification.proofs.Laws.{loaded_ready, fitted_by}
-use borrow.Author.Rules.{rules}
 use Rattle.classification.proofs.fit.Goals as goal
 
 pub solve-requires : goal.solve-requires

@@ -5,7 +5,6 @@ use Rattle.state.specs.Lists.{state}
 use Rattle.travel.proofs.Within.{trained_within}
 use Rattle.answer.specs.Lent.{lent}
 use Rattle.answer.proofs.Laws.{solved_by}
-use borrow.Author.Rules.{rules}
 use Rattle.classification.proofs.solve.Goals as goal
 
 pub settle-out-requires : goal.settle-out-requires

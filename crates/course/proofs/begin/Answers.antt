@@ -1,11 +1,8 @@
-use Prim.Native.Nat.{◌≤◌, ◌-◌}
 use mathlib.Core.Path.{◌≡◌, refl}
 use native.Mathlib.Numerals.{add-one}
 use native.Mathlib.Omega.{arith}
-use lib.ListN.{length, length-set}
-use Rattle.kernel.specs.Row.{signed_of}
+use lib.ListN.{length-set}
 use Rattle.orderless.specs.Run.{spread}
-use Rattle.rho.specs.Rho.{positive_in}
 use borrow.Author.Rules.{rules}
 use Rattle.course.proofs.begin.Goals as goal
 

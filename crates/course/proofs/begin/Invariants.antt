@@ -1,12 +1,9 @@
-use Prim.Native.Nat.{◌≤◌, ◌-◌}
-use mathlib.Core.Path.{◌≡◌, refl}
-use native.Mathlib.Numerals.{add-one}
-use native.Mathlib.Omega.{arith}
-use lib.ListN.{length, length-set}
+use Prim.Native.Nat.{◌≤◌}
+use mathlib.Core.Path.{◌≡◌}
+use lib.ListN.{length}
 use Rattle.kernel.specs.Row.{signed_of}
 use Rattle.orderless.specs.Run.{spread}
 use Rattle.rho.specs.Rho.{positive_in}
-use borrow.Author.Rules.{rules}
 use Rattle.course.proofs.begin.Given as goal
 
 abbrev pub invariant-loop-k : goal.invariant-loop-k

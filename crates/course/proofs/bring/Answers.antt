@@ -1,10 +1,7 @@
-use Prim.Native.Nat.{◌≤◌, ◌-◌}
 use mathlib.Core.Path.{◌≡◌, refl}
 use native.Mathlib.Numerals.{add-one}
 use native.Mathlib.Omega.{arith}
-use lib.ListN.{length, length-set}
-use lib.Ieee.{binary64, mul}
-use Rattle.kernel.specs.Matrix.{entry_at}
+use lib.ListN.{length-set}
 use Rattle.orderless.specs.Run.{raised_to}
 use borrow.Author.Rules.{rules}
 use Rattle.course.proofs.bring.Goals as goal

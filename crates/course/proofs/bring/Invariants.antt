@@ -1,12 +1,9 @@
-use Prim.Native.Nat.{◌≤◌, ◌-◌}
-use mathlib.Core.Path.{◌≡◌, refl}
-use native.Mathlib.Numerals.{add-one}
-use native.Mathlib.Omega.{arith}
-use lib.ListN.{length, length-set}
+use Prim.Native.Nat.{◌≤◌}
+use mathlib.Core.Path.{◌≡◌}
+use lib.ListN.{length}
 use lib.Ieee.{binary64, mul}
 use Rattle.kernel.specs.Matrix.{entry_at}
 use Rattle.orderless.specs.Run.{raised_to}
-use borrow.Author.Rules.{rules}
 use Rattle.course.proofs.bring.Given as goal
 
 abbrev pub invariant-loop-k : goal.invariant-loop-k

@@ -1,11 +1,7 @@
-use Prim.Native.Nat.{◌≤◌, ◌-◌}
-use mathlib.Core.Path.{◌≡◌, refl, ◌∙◌}
-use native.Mathlib.Numerals.{add-one}
-use native.Mathlib.Omega.{arith}
+use Prim.Native.Nat.{◌≤◌}
+use mathlib.Core.Path.{◌≡◌}
 use lib.ListN.{length}
 use Rattle.course.specs.Filled.{joined_in}
-use Rattle.course.proofs.Laws.{ready_long}
-use borrow.Author.Rules.{rules}
 use Rattle.course.proofs.gather.Given as goal
 
 abbrev pub invariant-loop-i : goal.invariant-loop-i

@@ -1,14 +1,10 @@
 use Prim.Native.Nat.{◌≤◌, ◌-◌}
 use mathlib.Core.Bool.{true}
-use mathlib.Core.Path.{◌≡◌, refl, ◌∙◌}
-use native.Mathlib.Numerals.{add-one}
-use native.Mathlib.Omega.{arith}
+use mathlib.Core.Path.{◌≡◌}
 use lib.ListN.{length}
 use Rattle.orderless.specs.Run.{Course, course, goes_on}
 use Rattle.orderless.specs.Sheet.{ceilings_of}
 use Rattle.sheet.specs.Ready.{SheetReady, Diagonal, Fitting}
-use Rattle.course.proofs.Laws.{not_false, not_true, go_more, go_stays}
-use borrow.Author.Rules.{rules}
 use Rattle.course.proofs.go_on.Given as goal
 
 abbrev pub invariant-loop-t : goal.invariant-loop-t

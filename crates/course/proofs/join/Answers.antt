@@ -1,4 +1,3 @@
-use borrow.Author.Rules.{rules}
 use Rattle.course.proofs.join.Goals as goal
 
 pub returns-then-v : goal.returns-then-v

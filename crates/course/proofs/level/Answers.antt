@@ -1,5 +1,4 @@
 use Rattle.orderless.specs.End.{level_for}
-use borrow.Author.Rules.{rules}
 use Rattle.course.proofs.level.Goals as goal
 
 pub returns-then-g : goal.returns-then-g

@@ -1,12 +1,9 @@
-use Prim.Native.Nat.{◌≤◌, ◌-◌}
 use mathlib.Core.Path.{◌≡◌, refl, ap}
 use native.Mathlib.Numerals.{add-one}
 use native.Mathlib.Omega.{arith}
 use lib.Ieee.{Float, binary64, div}
 use Rattle.alpha.specs.Weight.{two}
 use Rattle.orderless.specs.End.{sum_of}
-use Rattle.orderless.specs.Sheet.{read_in, ceilings_of}
-use Rattle.orderless.specs.Step.{slope}
 use borrow.Author.Rules.{rules}
 use Rattle.course.proofs.objective.Goals as goal
 

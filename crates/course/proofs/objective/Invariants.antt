@@ -1,13 +1,8 @@
-use Prim.Native.Nat.{◌≤◌, ◌-◌}
-use mathlib.Core.Path.{◌≡◌, refl, ap}
-use native.Mathlib.Numerals.{add-one}
-use native.Mathlib.Omega.{arith}
-use lib.Ieee.{Float, binary64, div}
-use Rattle.alpha.specs.Weight.{two}
+use Prim.Native.Nat.{◌≤◌}
+use mathlib.Core.Path.{◌≡◌}
 use Rattle.orderless.specs.End.{sum_of}
 use Rattle.orderless.specs.Sheet.{read_in, ceilings_of}
 use Rattle.orderless.specs.Step.{slope}
-use borrow.Author.Rules.{rules}
 use Rattle.course.proofs.objective.Given as goal
 
 abbrev pub invariant-loop-k : goal.invariant-loop-k

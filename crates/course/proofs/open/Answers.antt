@@ -1,10 +1,7 @@
-use Prim.Native.Nat.{◌≤◌, ◌-◌}
 use mathlib.Core.Path.{◌≡◌, refl, ◌∙◌}
 use native.Mathlib.Numerals.{add-one}
 use native.Mathlib.Omega.{arith}
-use lib.ListN.{length}
 use Rattle.orderless.specs.Run.{opened_to}
-use Rattle.orderless.specs.Sheet.{ceilings_of}
 use borrow.Author.Rules.{rules}
 use Rattle.course.proofs.open.Goals as goal
 

@@ -4,7 +4,6 @@ use Rattle.orderless.specs.Run.{passes}
 use Rattle.orderless.specs.Sheet.{read_in, ceilings_of}
 use Rattle.orderless.proofs.Labels.{pair_below}
 use Rattle.course.proofs.Laws.{ready_long, diagonal_steps, fitting_steps}
-use borrow.Author.Rules.{rules}
 use Rattle.course.proofs.pass.Goals as goal
 
 pub step-requires : goal.step-requires

@@ -1,12 +1,8 @@
-use Prim.Native.Nat.{◌≤◌, ◌-◌}
-use mathlib.Core.Path.{◌≡◌, refl}
-use native.Mathlib.Numerals.{add-one}
-use native.Mathlib.Omega.{arith}
-use lib.Ieee.{of_bits, div, neg}
+use Prim.Native.Nat.{◌≤◌}
+use mathlib.Core.Path.{◌≡◌}
 use Rattle.orderless.specs.End.{share_c_of}
 use Rattle.orderless.specs.Sheet.{read_in, ceilings_of, alpha_of}
 use Rattle.orderless.specs.Step.{slope}
-use borrow.Author.Rules.{rules}
 use Rattle.course.proofs.share_c.Given as goal
 
 abbrev pub invariant-loop-k : goal.invariant-loop-k

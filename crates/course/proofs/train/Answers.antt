@@ -3,7 +3,6 @@ use Rattle.orderless.specs.Run.{orderless}
 use Rattle.orderless.specs.Sheet.{ceilings_of}
 use Rattle.course.specs.Filled.{diagonal_in}
 use Rattle.course.proofs.Laws.{ready_long, length_diagonal, diagonal_filled, diagonal_started, fitting_started, started_is}
-use borrow.Author.Rules.{rules}
 use Rattle.course.proofs.train.Goals as goal
 
 pub go_on-requires : goal.go_on-requires

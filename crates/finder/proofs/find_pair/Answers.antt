@@ -1,5 +1,4 @@
 use Rattle.finder.specs.Found.{found_pair}
-use borrow.Author.Rules.{rules}
 use Rattle.finder.proofs.find_pair.Goals as goal
 
 pub returns : goal.returns

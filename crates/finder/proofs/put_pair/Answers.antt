@@ -1,5 +1,4 @@
 use Rattle.finder.specs.Found.{with_pair}
-use borrow.Author.Rules.{rules}
 use Rattle.finder.proofs.put_pair.Goals as goal
 
 pub returns : goal.returns

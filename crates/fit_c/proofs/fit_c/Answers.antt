@@ -1,4 +1,3 @@
-use borrow.Author.Rules.{rules}
 use Rattle.fit_c.proofs.fit_c.Goals as goal
 
 pub returns : goal.returns

@@ -2,7 +2,6 @@ use mathlib.Core.Path.{sym, ◌∙◌}
 use Rattle.classification.specs.Entries.{decided, fit_c_tuned_sized}
 use Rattle.classification.proofs.Laws.{usable_c}
 use Rattle.judge.proofs.Accepted.{floor_fine}
-use borrow.Author.Rules.{rules}
 use Rattle.fit_c.proofs.sized.Goals as goal
 
 pub started-requires : goal.started-requires

@@ -1,5 +1,4 @@
 use native.Mathlib.Omega.{arith}
-use borrow.Author.Rules.{rules}
 use Rattle.fit_c.proofs.started.Goals as goal
 
 pub fit-requires : goal.fit-requires

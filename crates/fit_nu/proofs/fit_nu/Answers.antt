@@ -1,4 +1,3 @@
-use borrow.Author.Rules.{rules}
 use Rattle.fit_nu.proofs.fit_nu.Goals as goal
 
 pub returns : goal.returns

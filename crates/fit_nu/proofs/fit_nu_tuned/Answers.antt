@@ -3,7 +3,6 @@ use borrow.Author.Tests.{eq-eqb, ne_eqb}
 use lib.ListN.{length}
 use Rattle.judge.proofs.Lengths.{inputs_of, room_of, long_enough}
 use Rattle.classification.specs.Entries.{entered, fit_nu_tuned}
-use borrow.Author.Rules.{rules}
 use Rattle.fit_nu.proofs.fit_nu_tuned.Goals as goal
 
 pub sized-requires : goal.sized-requires

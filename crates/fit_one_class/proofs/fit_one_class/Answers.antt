@@ -1,4 +1,3 @@
-use borrow.Author.Rules.{rules}
 use Rattle.fit_one_class.proofs.fit_one_class.Goals as goal
 
 pub returns : goal.returns

@@ -2,7 +2,6 @@ use mathlib.Core.Path.{sym, ◌∙◌}
 use borrow.Author.Tests.{eq-eqb, ne_eqb}
 use Rattle.judge.proofs.Lengths.{room_of}
 use Rattle.classification.specs.Entries.{entered, fit_one_class_tuned}
-use borrow.Author.Rules.{rules}
 use Rattle.fit_one_class.proofs.fit_one_class_tuned.Goals as goal
 
 pub sized-requires : goal.sized-requires

@@ -1,9 +1,7 @@
-use Prim.Native.Nat.{◌≤◌, ◌-◌}
 use mathlib.Core.Path.{◌≡◌, refl}
 use native.Mathlib.Numerals.{add-one}
 use native.Mathlib.Omega.{arith}
-use lib.ListN.{length}
-use Rattle.fits.specs.Starts.{half, rest_to, shared_to}
+use Rattle.fits.specs.Starts.{rest_to, shared_to}
 use borrow.Author.Rules.{rules}
 use Rattle.fits.proofs.alphas_nu.Goals as goal
 

@@ -1,8 +1,6 @@
-use Prim.Native.Nat.{◌≤◌, ◌-◌}
 use mathlib.Core.Path.{◌≡◌, refl}
 use native.Mathlib.Numerals.{add-one}
 use native.Mathlib.Omega.{arith}
-use lib.ListN.{length}
 use Rattle.fits.specs.Starts.{one_class_to}
 use borrow.Author.Rules.{rules}
 use Rattle.fits.proofs.alphas_one_class.Goals as goal

@@ -1,8 +1,6 @@
-use Prim.Native.Nat.{◌≤◌, ◌-◌}
 use mathlib.Core.Path.{◌≡◌, refl}
 use native.Mathlib.Numerals.{add-one}
 use native.Mathlib.Omega.{arith}
-use lib.ListN.{length}
 use Rattle.fits.specs.Starts.{costs_to}
 use borrow.Author.Rules.{rules}
 use Rattle.fits.proofs.ceilings_c.Goals as goal

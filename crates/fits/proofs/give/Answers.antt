@@ -1,5 +1,4 @@
 use Rattle.fits.specs.Starts.{given_from}
-use borrow.Author.Rules.{rules}
 use Rattle.fits.proofs.give.Goals as goal
 
 pub returns-then-positive : goal.returns-then-positive

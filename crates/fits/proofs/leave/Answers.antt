@@ -1,5 +1,4 @@
 use Rattle.fits.specs.Starts.{rest_after}
-use borrow.Author.Rules.{rules}
 use Rattle.fits.proofs.leave.Goals as goal
 
 pub returns-then-positive : goal.returns-then-positive

@@ -1,4 +1,3 @@
-use borrow.Author.Rules.{rules}
 use Rattle.fits.proofs.load.Goals as goal
 
 pub returns : goal.returns

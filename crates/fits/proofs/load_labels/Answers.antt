@@ -1,8 +1,6 @@
-use Prim.Native.Nat.{◌≤◌, ◌-◌}
 use mathlib.Core.Path.{◌≡◌, refl}
 use native.Mathlib.Numerals.{add-one}
 use native.Mathlib.Omega.{arith}
-use lib.ListN.{length}
 use Rattle.fits.specs.Load.{loaded_labels}
 use borrow.Author.Rules.{rules}
 use Rattle.fits.proofs.load_labels.Goals as goal

@@ -1,6 +1,5 @@
 use borrow.Author.Tests.{lt-ltb, le-ltb, eq-eqb, ne_eqb}
 use Rattle.fits.specs.Starts.{one_class_at}
-use borrow.Author.Rules.{rules}
 use Rattle.fits.proofs.one_class_alpha.Goals as goal
 
 pub returns-then-place-whole : goal.returns-then-place-whole

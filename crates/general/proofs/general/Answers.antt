@@ -1,4 +1,3 @@
-use borrow.Author.Rules.{rules}
 use Rattle.general.proofs.general.Goals as goal
 
 pub returns : goal.returns

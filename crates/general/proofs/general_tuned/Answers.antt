@@ -4,7 +4,6 @@ use lib.ListN.{length}
 use Rattle.judge.proofs.Lengths.{inputs_of, room_of}
 use Rattle.classification.specs.Entries.{entered, general_tuned}
 use Rattle.classification.proofs.Laws.{four_long}
-use borrow.Author.Rules.{rules}
 use Rattle.general.proofs.general_tuned.Goals as goal
 
 pub sized-requires : goal.sized-requires

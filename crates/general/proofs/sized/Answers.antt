@@ -2,7 +2,6 @@ use mathlib.Core.Path.{sym, ◌∙◌}
 use Rattle.classification.specs.Entries.{decided, general_tuned_sized}
 use Rattle.classification.proofs.Laws.{usable_general}
 use Rattle.judge.proofs.Accepted.{floor_fine}
-use borrow.Author.Rules.{rules}
 use Rattle.general.proofs.sized.Goals as goal
 
 pub fit-requires : goal.fit-requires

@@ -1,5 +1,4 @@
 use Rattle.hosted.specs.Hosted.{delivered_by}
-use borrow.Author.Rules.{rules}
 use Rattle.hosted.proofs.deliver.Goals as goal
 
 pub returns-in-Accepted : goal.returns-in-Accepted

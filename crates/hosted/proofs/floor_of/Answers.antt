@@ -1,4 +1,3 @@
-use borrow.Author.Rules.{rules}
 use borrow.Author.Tests.{le-leb, lt-leb}
 use Rattle.hosted.specs.Hosted.{floor_of}
 use Rattle.hosted.proofs.floor_of.Goals as goal

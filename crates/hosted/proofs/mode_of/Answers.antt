@@ -1,5 +1,4 @@
 use mathlib.Core.Path.{sym, ◌∙◌}
-use borrow.Author.Rules.{rules}
 use Rattle.hosted.specs.Hosted.{mode_of}
 use Rattle.hosted.proofs.mode_of.Goals as goal
 

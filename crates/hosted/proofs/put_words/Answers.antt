@@ -1,8 +1,6 @@
-use Prim.Native.Nat.{◌≤◌, ◌-◌}
 use mathlib.Core.Path.{◌≡◌, refl}
 use native.Mathlib.Numerals.{add-one}
 use native.Mathlib.Omega.{arith}
-use lib.ListN.{length}
 use Rattle.hosted.specs.Hosted.{words_to}
 use borrow.Author.Rules.{rules}
 use Rattle.hosted.proofs.put_words.Goals as goal

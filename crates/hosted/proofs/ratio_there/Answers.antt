@@ -1,5 +1,4 @@
 use Rattle.answer.specs.Answer.{ratio_there}
-use borrow.Author.Rules.{rules}
 use Rattle.hosted.proofs.ratio_there.Goals as goal
 
 pub returns-in-Absent : goal.returns-in-Absent

@@ -1,5 +1,4 @@
 use Rattle.answer.specs.Answer.{reason_number}
-use borrow.Author.Rules.{rules}
 use Rattle.hosted.proofs.reason_number.Goals as goal
 
 pub returns-in-ReachedThreshold : goal.returns-in-ReachedThreshold

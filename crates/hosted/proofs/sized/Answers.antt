@@ -1,5 +1,4 @@
 use Rattle.hosted.specs.Hosted.{host_sizes}
-use borrow.Author.Rules.{rules}
 use Rattle.hosted.proofs.sized.Goals as goal
 
 pub returns : goal.returns

@@ -1,6 +1,5 @@
 use borrow.Author.Tests.{le-leb, lt-leb}
 use Rattle.hosted.specs.Hosted.{turned_away}
-use borrow.Author.Rules.{rules}
 use Rattle.hosted.proofs.turn_away.Goals as goal
 
 pub returns-then-answer-ge72 : goal.returns-then-answer-ge72

@@ -1,4 +1,3 @@
-use borrow.Author.Rules.{rules}
 use borrow.Author.Tests.{le-leb, lt-leb}
 use Rattle.hosted.specs.Hosted.{word_on}
 use Rattle.hosted.proofs.word_on.Goals as goal

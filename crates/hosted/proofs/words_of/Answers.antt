@@ -1,6 +1,5 @@
 use mathlib.Core.Path.{refl}
 use Rattle.answer.specs.Answer.{words_of}
-use borrow.Author.Rules.{rules}
 use Rattle.hosted.proofs.words_of.Goals as goal
 
 pub returns-in-Refused : goal.returns-in-Refused

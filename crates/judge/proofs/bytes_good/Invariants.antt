@@ -1,9 +1,6 @@
-use Prim.Native.Nat.{◌≤◌, ◌-◌}
-use mathlib.Core.Path.{◌≡◌, refl}
-use native.Mathlib.Numerals.{add-one}
-use native.Mathlib.Omega.{arith}
+use Prim.Native.Nat.{◌≤◌}
+use mathlib.Core.Path.{◌≡◌}
 use Rattle.judge.specs.Judge.{bytes_good}
-use borrow.Author.Rules.{rules}
 use Rattle.judge.proofs.bytes_good.Given as goal
 
 abbrev pub invariant-loop-k : goal.invariant-loop-k

@@ -1,8 +1,7 @@
-use Prim.Native.Nat.{◌≤◌, ◌-◌}
-use mathlib.Core.Path.{◌≡◌, sym, ◌∙◌}
+use mathlib.Core.Path.{sym, ◌∙◌}
 use native.Mathlib.Nat.{sub-zero}
 use native.Mathlib.Omega.{arith}
-use Rattle.judge.specs.Judge.{first, ceiling_good}
+use Rattle.judge.specs.Judge.{ceiling_good}
 use Rattle.judge.proofs.First.{kept, turn, on, stop, done}
 use borrow.Author.Rules.{rules}
 use Rattle.judge.proofs.ceilings_judged.Goals as goal

@@ -1,7 +1,6 @@
 use mathlib.Core.Path.{sym, ◌∙◌}
 use Rattle.judge.specs.Judge.{first, cost_good}
 use Rattle.judge.proofs.First.{kept, turn}
-use borrow.Author.Rules.{rules}
 use Rattle.judge.proofs.costs_judged.Goals as goal
 
 pub returns-then-is_bad : goal.returns-then-is_bad

@@ -3,7 +3,6 @@ use borrow.Author.Tests.{lt-ltb, le-ltb}
 use lib.Dec.{T}
 use Rattle.judge.proofs.Bits.{eps_pattern}
 use Rattle.judge.proofs.First.{kept, turn}
-use borrow.Author.Rules.{rules}
 use Rattle.judge.proofs.eps_judged.Goals as goal
 
 pub returns-then-is_bad : goal.returns-then-is_bad

@@ -1,4 +1,3 @@
-use borrow.Author.Rules.{rules}
 use Rattle.judge.proofs.is_ceiling.Goals as goal
 
 pub returns : goal.returns

@@ -1,9 +1,8 @@
-use Prim.Native.Nat.{◌≤◌, ◌-◌}
-use mathlib.Core.Path.{◌≡◌, sym, ◌∙◌}
+use mathlib.Core.Path.{sym, ◌∙◌}
 use native.Mathlib.Nat.{sub-zero}
 use native.Mathlib.Omega.{arith}
 use borrow.Author.Tests.{le-leb, lt-leb}
-use Rattle.judge.specs.Judge.{first, label_good}
+use Rattle.judge.specs.Judge.{label_good}
 use Rattle.judge.proofs.First.{kept, turn, on, stop, done}
 use borrow.Author.Rules.{rules}
 use Rattle.judge.proofs.labels_judged.Goals as goal

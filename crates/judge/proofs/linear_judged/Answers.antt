@@ -1,10 +1,9 @@
-use Prim.Native.Nat.{◌≤◌, ◌-◌}
-use mathlib.Core.Path.{◌≡◌, sym, ◌∙◌}
+use mathlib.Core.Path.{sym, ◌∙◌}
 use native.Mathlib.Nat.{sub-zero}
 use native.Mathlib.Omega.{arith}
 use lib.Ieee.{of_bits, div, neg}
 use Rattle.judge.proofs.Bits.{between}
-use Rattle.judge.specs.Judge.{first, linear_good}
+use Rattle.judge.specs.Judge.{linear_good}
 use Rattle.judge.proofs.First.{kept, turn, on, stop, done}
 use borrow.Author.Rules.{rules}
 use Rattle.judge.proofs.linear_judged.Goals as goal

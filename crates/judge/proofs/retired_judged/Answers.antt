@@ -1,6 +1,5 @@
 use mathlib.Core.Path.{sym, ◌∙◌}
 use Rattle.judge.proofs.First.{kept, turn}
-use borrow.Author.Rules.{rules}
 use Rattle.judge.proofs.retired_judged.Goals as goal
 
 pub returns-then-is_bad : goal.returns-then-is_bad

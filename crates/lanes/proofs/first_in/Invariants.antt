@@ -1,9 +1,6 @@
 use Prim.Native.Nat.{◌-◌, ◌≤◌}
 use mathlib.Core.Path.{◌≡◌}
-use native.Mathlib.Omega.{arith}
 use Rattle.lanes.specs.Lanes.{first_in}
-use Rattle.lanes.proofs.Steps.{first_more}
-use borrow.Author.Rules.{rules}
 use Rattle.lanes.proofs.first_in.Given as goal
 
 abbrev pub invariant-loop-k : goal.invariant-loop-k

@@ -1,10 +1,6 @@
 use Prim.Native.Nat.{◌-◌, ◌≤◌}
-use mathlib.Core.Logic.{⊎_elim}
 use mathlib.Core.Path.{◌≡◌}
-use native.Mathlib.Omega.{arith}
 use Rattle.lanes.specs.Lanes.{last_in}
-use Rattle.lanes.proofs.Steps.{last_more}
-use borrow.Author.Rules.{rules}
 use Rattle.lanes.proofs.last_in.Given as goal
 
 abbrev pub invariant-loop-k : goal.invariant-loop-k

@@ -1,12 +1,7 @@
-use Prim.Native.Nat.{suc, ◌+◌, ◌-◌, ◌*◌, ◌/◌, ◌≤◌}
-use mathlib.Core.Logic.{⊎_elim}
-use mathlib.Core.Path.{◌≡◌, sym, ◌∙◌}
-use native.Mathlib.Omega.{arith}
-use Rattle.extreme.specs.Best.{best}
+use Prim.Native.Nat.{◌-◌, ◌*◌, ◌/◌, ◌≤◌}
+use mathlib.Core.Path.{◌≡◌}
 use Rattle.extreme.specs.Racing.{racing}
 use Rattle.lanes.specs.Lanes.{least_by, begins}
-use Rattle.lanes.proofs.Steps.{infinity_is, whole_is, rest_is, turn_taken, turn_kept}
-use borrow.Author.Rules.{rules}
 use Rattle.lanes.proofs.least.Given as goal
 
 abbrev pub invariant-loop-t : goal.invariant-loop-t

@@ -1,8 +1,7 @@
-use Prim.Native.Nat.{ℕ, ◌-◌, ◌≤◌, ◌<◌}
 use mathlib.Core.Path.{◌≡◌, refl, ◌∙◌}
 use native.Mathlib.Omega.{arith}
 use lib.Ieee.{nan}
-use lib.ListN.{length, get_or}
+use lib.ListN.{get_or}
 use Rattle.lanes.specs.Lanes.{lane, least_from}
 use Rattle.lanes.proofs.Steps.{infinity_is, laid_more, least_same}
 use borrow.Author.Rules.{rules}

@@ -1,11 +1,8 @@
-use Prim.Native.Nat.{ℕ, ◌-◌, ◌≤◌, ◌<◌}
-use mathlib.Core.Path.{◌≡◌, refl, ◌∙◌}
-use native.Mathlib.Omega.{arith}
+use Prim.Native.Nat.{ℕ, ◌≤◌, ◌<◌}
+use mathlib.Core.Path.{◌≡◌}
 use lib.Ieee.{nan}
 use lib.ListN.{length, get_or}
-use Rattle.lanes.specs.Lanes.{lane, least_from}
-use Rattle.lanes.proofs.Steps.{infinity_is, laid_more, least_same}
-use borrow.Author.Rules.{rules}
+use Rattle.lanes.specs.Lanes.{lane}
 use Rattle.lanes.proofs.least_from.Given as goal
 
 abbrev pub invariant-loop-k : goal.invariant-loop-k

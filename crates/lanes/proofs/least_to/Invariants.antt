@@ -1,9 +1,6 @@
 use Prim.Native.Nat.{◌-◌, ◌≤◌}
 use mathlib.Core.Path.{◌≡◌}
-use native.Mathlib.Omega.{arith}
 use Rattle.lanes.specs.Lanes.{least_to}
-use Rattle.lanes.proofs.Steps.{infinity_is, to_more}
-use borrow.Author.Rules.{rules}
 use Rattle.lanes.proofs.least_to.Given as goal
 
 abbrev pub invariant-loop-k : goal.invariant-loop-k

@@ -1,7 +1,6 @@
 use native.Mathlib.Omega.{arith}
 use Rattle.lanes.proofs.Place.{placed_at}
 use Rattle.lanes.proofs.Steps.{infinity_is}
-use borrow.Author.Rules.{rules}
 use Rattle.lanes.proofs.lowest.Goals as goal
 
 pub offset_bounds-f-i : goal.offset_bounds-f-i

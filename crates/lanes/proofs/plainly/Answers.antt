@@ -1,4 +1,4 @@
-use Prim.Native.Nat.{◌+◌, ◌-◌, ◌≤◌}
+use Prim.Native.Nat.{◌+◌}
 use mathlib.Core.Bool.{true, false, cond}
 use mathlib.Core.Path.{◌≡◌, refl, ◌∙◌}
 use native.Mathlib.Numerals.{add-one}
@@ -6,7 +6,7 @@ use native.Mathlib.Omega.{arith}
 use lib.Ieee.{nan, inf, of_bits, div}
 use lib.ListN.{get_or}
 use Rattle.extreme.specs.Best.{at_most, best}
-use Rattle.extreme.specs.Racing.{below, race_of}
+use Rattle.extreme.specs.Racing.{below}
 use Rattle.extreme.proofs.Racing.{race_weighed}
 use borrow.Author.Rules.{rules}
 use Rattle.lanes.proofs.plainly.Goals as goal

@@ -1,14 +1,10 @@
-use Prim.Native.Nat.{◌+◌, ◌-◌, ◌≤◌}
+use Prim.Native.Nat.{◌+◌, ◌≤◌}
 use mathlib.Core.Bool.{true, false, cond}
-use mathlib.Core.Path.{◌≡◌, refl, ◌∙◌}
-use native.Mathlib.Numerals.{add-one}
-use native.Mathlib.Omega.{arith}
-use lib.Ieee.{nan, inf, of_bits, div}
+use mathlib.Core.Path.{◌≡◌}
+use lib.Ieee.{nan, inf}
 use lib.ListN.{get_or}
 use Rattle.extreme.specs.Best.{at_most, best}
 use Rattle.extreme.specs.Racing.{below, race_of}
-use Rattle.extreme.proofs.Racing.{race_weighed}
-use borrow.Author.Rules.{rules}
 use Rattle.lanes.proofs.plainly.Given as goal
 
 abbrev pub invariant-loop-k : goal.invariant-loop-k

@@ -1,4 +1,3 @@
-use borrow.Author.Rules.{rules}
 use Rattle.lanes.proofs.seat_in.Goals as goal
 
 pub returns-then-nu : goal.returns-then-nu

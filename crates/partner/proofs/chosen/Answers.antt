@@ -2,7 +2,6 @@ use native.Mathlib.Omega.{arith}
 use Rattle.state.specs.Lists.{problem, state}
 use Rattle.partner.specs.Second.{leads, choice}
 use Rattle.partner.proofs.Steps.{second_below}
-use borrow.Author.Rules.{rules}
 use Rattle.partner.proofs.chosen.Goals as goal
 
 pub returns-then-stop : goal.returns-then-stop

@@ -1,5 +1,4 @@
 use Rattle.partner.specs.Curvature.{curvature}
-use borrow.Author.Rules.{rules}
 use Rattle.partner.proofs.curvature_of.Goals as goal
 
 pub returns-then-q : goal.returns-then-q

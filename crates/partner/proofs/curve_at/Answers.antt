@@ -4,7 +4,6 @@ use lib.Ieee.{Float}
 use Rattle.kernel.specs.Row.{signed_of}
 use Rattle.kernel.proofs.Laws.{curved_signed}
 use Rattle.partner.specs.Curvature.{curvature}
-use borrow.Author.Rules.{rules}
 use Rattle.partner.proofs.curve_at.Goals as goal
 
 curvature_signed : (floor a b x : Float) (agree alike : Bool) → curvature floor a b (signed_of alike x) agree ≡ curvature floor a b x (beq agree alike)

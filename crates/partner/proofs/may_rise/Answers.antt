@@ -1,4 +1,3 @@
-use borrow.Author.Rules.{rules}
 use Rattle.partner.proofs.may_rise.Goals as goal
 
 pub returns-then-pos : goal.returns-then-pos

@@ -1,12 +1,7 @@
-use Prim.Native.Nat.{◌≤◌, ◌-◌}
-use mathlib.Core.Path.{◌≡◌, refl, ap}
-use native.Mathlib.Numerals.{add-one}
-use native.Mathlib.Omega.{arith}
-use lib.Ieee.{of_bits, div}
-use Rattle.extreme.specs.declared.Race.{Race}
+use Prim.Native.Nat.{◌≤◌}
+use mathlib.Core.Path.{◌≡◌}
 use Rattle.state.specs.Lists.{problem, state}
 use Rattle.partner.specs.Lead.{raced_to}
-use borrow.Author.Rules.{rules}
 use Rattle.partner.proofs.race.Given as goal
 
 abbrev pub invariant-loop-j : goal.invariant-loop-j

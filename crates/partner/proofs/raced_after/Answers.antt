@@ -1,7 +1,5 @@
 use mathlib.Core.Path.{sym, ◌∙◌}
-use borrow.Author.Tests.{not-true, not-false}
 use Rattle.partner.specs.Lead.{raced_after}
-use borrow.Author.Rules.{rules}
 use Rattle.partner.proofs.raced_after.Goals as goal
 
 pub returns-then-not-may_fall : goal.returns-then-not-may_fall

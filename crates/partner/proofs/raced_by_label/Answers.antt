@@ -1,5 +1,4 @@
 use borrow.Author.Tests.{eq-eqb, ne_eqb}
-use borrow.Author.Rules.{rules}
 use Rattle.partner.proofs.raced_by_label.Goals as goal
 
 pub returns-then-y-j-eq1 : goal.returns-then-y-j-eq1

@@ -1,6 +1,5 @@
 use mathlib.Core.Path.{sym, ◌∙◌}
 use Rattle.partner.specs.Stirred.{stirred}
-use borrow.Author.Rules.{rules}
 use Rattle.partner.proofs.stirs.Goals as goal
 
 pub returns-then-reached_lower : goal.returns-then-reached_lower

@@ -3,7 +3,6 @@ use mathlib.Core.Path.{sym, ap, ◌∙◌}
 use native.Mathlib.Omega.{arith}
 use Rattle.extreme.specs.declared.Race.{Race}
 use Rattle.picks.proofs.Steps.{first_low, low_is, low_up, leader_is, none_stops, second_rises, nobody_follows, pair_is}
-use borrow.Author.Rules.{rules}
 use Rattle.picks.proofs.choice.Goals as goal
 
 pub other-q-requires : goal.other-q-requires

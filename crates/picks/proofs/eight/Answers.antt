@@ -2,7 +2,6 @@ use Prim.Native.Nat.{◌+◌, ◌-◌}
 use mathlib.Core.Path.{◌≡◌}
 use native.Mathlib.Omega.{arith}
 use Rattle.picks.proofs.Steps.{one_first}
-use borrow.Author.Rules.{rules}
 use Rattle.picks.proofs.eight.Goals as goal
 
 pub raced_to-requires : goal.raced_to-requires

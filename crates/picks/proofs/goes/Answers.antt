@@ -3,7 +3,6 @@ use mathlib.Core.Path.{ap, ◌∙◌}
 use Rattle.orderless.specs.Sheet.{read_in}
 use Rattle.orderless.proofs.Stop.{wide_goes}
 use Rattle.picks.proofs.Steps.{rising_is, stops_is}
-use borrow.Author.Rules.{rules}
 use Rattle.picks.proofs.goes.Goals as goal
 
 pub returns-then-f-n : goal.returns-then-f-n

@@ -1,15 +1,11 @@
-use Prim.Native.Nat.{◌+◌, ◌*◌, ◌≤◌, ◌-◌}
+use Prim.Native.Nat.{◌+◌, ◌*◌, ◌≤◌}
 use mathlib.Core.Bool.{true, cond}
-use mathlib.Core.Path.{◌≡◌, refl, ◌∙◌}
-use native.Mathlib.Numerals.{add-one}
-use native.Mathlib.Omega.{arith}
-use lib.Ieee.{nan, inf, of_bits, div, neg}
+use mathlib.Core.Path.{◌≡◌}
+use lib.Ieee.{nan, inf}
 use lib.ListN.{get_or}
 use Rattle.extreme.specs.Best.{at_least, above, best}
 use Rattle.orderless.specs.Sheet.{sought}
 use Rattle.rho.specs.Rho.{positive_in}
-use Rattle.picks.proofs.Steps.{value_weighed}
-use borrow.Author.Rules.{rules}
 use Rattle.picks.proofs.highest.Given as goal
 
 abbrev pub invariant-loop-k : goal.invariant-loop-k

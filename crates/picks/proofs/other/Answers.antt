@@ -1,4 +1,3 @@
-use borrow.Author.Rules.{rules}
 use Rattle.picks.proofs.other.Goals as goal
 
 pub returns-then-nu : goal.returns-then-nu

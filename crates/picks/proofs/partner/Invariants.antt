@@ -1,13 +1,8 @@
 use Prim.Native.Nat.{◌≤◌, ◌-◌}
-use mathlib.Core.Logic.{inl, inr}
-use mathlib.Core.Path.{◌≡◌, refl, sym, ap, ◌∙◌}
-use lib.Ieee.{of_bits, div}
-use Rattle.extreme.specs.Best.{best}
+use mathlib.Core.Path.{◌≡◌}
 use Rattle.extreme.specs.Racing.{race_of}
-use Rattle.extreme.specs.declared.Race.{Race}
 use Rattle.picks.specs.Follow.{bar_of}
-use Rattle.picks.proofs.Steps.{partner_to, raced_partner, raced_rest, calm, same_leader}
-use borrow.Author.Rules.{rules}
+use Rattle.picks.proofs.Steps.{partner_to}
 use Rattle.picks.proofs.partner.Given as goal
 
 abbrev pub invariant-loop-t : goal.invariant-loop-t

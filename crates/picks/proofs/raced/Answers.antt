@@ -2,7 +2,6 @@ use lib.Ieee.{le}
 use mathlib.Core.Path.{◌∙◌}
 use Rattle.picks.specs.Follow.{raced_by}
 use Rattle.picks.proofs.Steps.{raced_taken}
-use borrow.Author.Rules.{rules}
 use Rattle.picks.proofs.raced.Goals as goal
 
 pub returns-then-d : goal.returns-then-d

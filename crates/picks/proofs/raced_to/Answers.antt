@@ -1,10 +1,9 @@
-use Prim.Native.Nat.{◌≤◌, ◌-◌}
 use mathlib.Core.Path.{◌≡◌, ◌∙◌}
 use native.Mathlib.Numerals.{add-one}
 use native.Mathlib.Omega.{arith}
 use lib.Dec.{eqb}
 use lib.ListN.{get_or}
-use Rattle.picks.specs.Follow.{raced_from, by_label}
+use Rattle.picks.specs.Follow.{by_label}
 use Rattle.picks.proofs.Steps.{one_at, raced_none, raced_next}
 use borrow.Author.Rules.{rules}
 use Rattle.picks.proofs.raced_to.Goals as goal

@@ -1,5 +1,4 @@
 use Rattle.picks.specs.Follow.{reaches_of}
-use borrow.Author.Rules.{rules}
 use Rattle.picks.proofs.reaches.Goals as goal
 
 pub returns : goal.returns

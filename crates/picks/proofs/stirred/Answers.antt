@@ -1,4 +1,3 @@
-use Prim.Native.Nat.{◌-◌}
 use Rattle.picks.proofs.Steps.{one_first}
 use Rattle.picks.proofs.stirred.Goals as goal
 

@@ -1,9 +1,6 @@
-use Prim.Native.Nat.{◌≤◌, ◌-◌}
-use mathlib.Core.Path.{◌≡◌, refl}
-use native.Mathlib.Numerals.{add-one}
-use native.Mathlib.Omega.{arith}
+use Prim.Native.Nat.{◌≤◌}
+use mathlib.Core.Path.{◌≡◌}
 use Rattle.picks.specs.Follow.{stirred_to}
-use borrow.Author.Rules.{rules}
 use Rattle.picks.proofs.stirs.Given as goal
 
 abbrev pub invariant-loop-k : goal.invariant-loop-k

@@ -1,4 +1,4 @@
-use Prim.Native.Nat.{◌+◌, ◌*◌, ◌≤◌, ◌-◌}
+use Prim.Native.Nat.{◌+◌, ◌*◌}
 use mathlib.Core.Bool.{Bool, ◌||◌}
 use mathlib.Core.Path.{◌≡◌, refl, ap}
 use lib.Dec.{eqb}
@@ -6,7 +6,7 @@ use lib.Ieee.{nan}
 use lib.ListN.{get_or}
 use native.Mathlib.Numerals.{add-one}
 use native.Mathlib.Omega.{arith}
-use Rattle.picks.specs.Follow.{stirred_to, by_label}
+use Rattle.picks.specs.Follow.{stirred_to}
 use Rattle.picks.proofs.Steps.{by_either}
 use borrow.Author.Rules.{rules}
 use Rattle.picks.proofs.stirs_by_label.Goals as goal

@@ -1,14 +1,6 @@
-use Prim.Native.Nat.{◌+◌, ◌*◌, ◌≤◌, ◌-◌}
-use mathlib.Core.Bool.{Bool, ◌||◌}
-use mathlib.Core.Path.{◌≡◌, refl, ap}
-use lib.Dec.{eqb}
-use lib.Ieee.{nan}
-use lib.ListN.{get_or}
-use native.Mathlib.Numerals.{add-one}
-use native.Mathlib.Omega.{arith}
+use Prim.Native.Nat.{◌≤◌}
+use mathlib.Core.Path.{◌≡◌}
 use Rattle.picks.specs.Follow.{stirred_to, by_label}
-use Rattle.picks.proofs.Steps.{by_either}
-use borrow.Author.Rules.{rules}
 use Rattle.picks.proofs.stirs_by_label.Given as goal
 
 abbrev pub invariant-loop-k : goal.invariant-loop-k

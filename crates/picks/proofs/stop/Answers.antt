@@ -1,4 +1,3 @@
-use borrow.Author.Rules.{rules}
 use Rattle.picks.proofs.stop.Goals as goal
 
 pub returns : goal.returns

@@ -1,9 +1,6 @@
-use Prim.Native.Nat.{◌≤◌, ◌-◌}
 use mathlib.Core.Path.{◌≡◌, refl, ◌∙◌}
 use native.Mathlib.Numerals.{add-one}
 use native.Mathlib.Omega.{arith}
-use lib.ListN.{length}
-use Rattle.state.specs.Lists.{problem, state}
 use Rattle.state.proofs.Kept.{ready_floats}
 use Rattle.reconstruct.specs.Reconstruct.{inner_to}
 use borrow.Author.Rules.{rules}

@@ -1,12 +1,8 @@
 use Prim.Native.Nat.{◌≤◌, ◌-◌}
-use mathlib.Core.Path.{◌≡◌, refl, ◌∙◌}
-use native.Mathlib.Numerals.{add-one}
-use native.Mathlib.Omega.{arith}
+use mathlib.Core.Path.{◌≡◌}
 use lib.ListN.{length}
 use Rattle.state.specs.Lists.{problem, state}
-use Rattle.state.proofs.Kept.{ready_floats}
 use Rattle.reconstruct.specs.Reconstruct.{outer_to}
-use borrow.Author.Rules.{rules}
 use Rattle.reconstruct.proofs.all_outer.Given as goal
 
 abbrev pub invariant-loop-k : goal.invariant-loop-k

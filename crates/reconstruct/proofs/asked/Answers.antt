@@ -1,5 +1,4 @@
 use Rattle.reconstruct.specs.Reconstruct.{gets}
-use borrow.Author.Rules.{rules}
 use Rattle.reconstruct.proofs.asked.Goals as goal
 
 pub returns-then-inner : goal.returns-then-inner

@@ -3,7 +3,6 @@ use native.Mathlib.Nat.{mul-le-mul}
 use native.Mathlib.Omega.{arith}
 use borrow.Author.Tests.{lt-ltb, le-ltb}
 use Rattle.reconstruct.specs.Reconstruct.{branched}
-use borrow.Author.Rules.{rules}
 use Rattle.reconstruct.proofs.branch.Goals as goal
 
 pub overflow_mul-free : goal.overflow_mul-free

@@ -1,5 +1,4 @@
 use Rattle.reconstruct.specs.Reconstruct.{brought}
-use borrow.Author.Rules.{rules}
 use Rattle.reconstruct.proofs.bring.Goals as goal
 
 pub returns-then-inner-free_floating : goal.returns-then-inner-free_floating

@@ -1,6 +1,5 @@
 use native.Mathlib.Omega.{arith}
 use Rattle.reconstruct.specs.Reconstruct.{counted}
-use borrow.Author.Rules.{rules}
 use Rattle.reconstruct.proofs.count_free.Goals as goal
 
 pub returns-then-free_floating : goal.returns-then-free_floating

@@ -1,7 +1,5 @@
 use mathlib.Core.Path.{sym, ◌∙◌}
-use borrow.Author.Tests.{not-true, not-false}
 use Rattle.reconstruct.proofs.Tests.{inner_kept, inner_free}
-use borrow.Author.Rules.{rules}
 use Rattle.reconstruct.proofs.inner.Goals as goal
 
 pub returns-then-not-free_floating : goal.returns-then-not-free_floating

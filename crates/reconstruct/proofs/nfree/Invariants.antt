@@ -1,9 +1,6 @@
-use Prim.Native.Nat.{◌≤◌, ◌-◌}
-use mathlib.Core.Path.{◌≡◌, refl}
-use native.Mathlib.Numerals.{add-one}
-use native.Mathlib.Omega.{arith}
+use Prim.Native.Nat.{◌≤◌}
+use mathlib.Core.Path.{◌≡◌}
 use Rattle.reconstruct.specs.Reconstruct.{free_to}
-use borrow.Author.Rules.{rules}
 use Rattle.reconstruct.proofs.nfree.Given as goal
 
 abbrev pub invariant-loop-k : goal.invariant-loop-k

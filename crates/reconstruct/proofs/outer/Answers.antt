@@ -1,7 +1,5 @@
 use mathlib.Core.Path.{sym, ◌∙◌}
-use borrow.Author.Tests.{not-true, not-false}
 use Rattle.reconstruct.proofs.Tests.{outer_kept, outer_free}
-use borrow.Author.Rules.{rules}
 use Rattle.reconstruct.proofs.outer.Goals as goal
 
 pub returns-then-not-asked : goal.returns-then-not-asked

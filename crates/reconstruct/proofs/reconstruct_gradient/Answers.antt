@@ -1,7 +1,6 @@
 use borrow.Author.Tests.{eq-eqb, ne_eqb}
 use Rattle.state.proofs.Kept.{ready_floats}
 use Rattle.reconstruct.specs.Reconstruct.{reconstructed}
-use borrow.Author.Rules.{rules}
 use Rattle.reconstruct.proofs.reconstruct_gradient.Goals as goal
 
 pub returns-then-active-n : goal.returns-then-active-n

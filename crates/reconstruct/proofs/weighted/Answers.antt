@@ -1,9 +1,7 @@
-use Prim.Native.Nat.{◌≤◌, ◌<◌, ◌-◌}
 use mathlib.Core.Path.{◌≡◌, refl}
 use native.Mathlib.Numerals.{add-one}
 use native.Mathlib.Omega.{arith}
-use Rattle.kernel.specs.Row.{kernel_index, row_at}
-use Rattle.state.specs.Lists.{problem, state}
+use Rattle.kernel.specs.Row.{row_at}
 use Rattle.reconstruct.specs.Reconstruct.{weighted_to}
 use borrow.Author.Rules.{rules}
 use Rattle.reconstruct.proofs.weighted.Goals as goal

@@ -1,11 +1,8 @@
-use Prim.Native.Nat.{◌≤◌, ◌<◌, ◌-◌}
-use mathlib.Core.Path.{◌≡◌, refl}
-use native.Mathlib.Numerals.{add-one}
-use native.Mathlib.Omega.{arith}
-use Rattle.kernel.specs.Row.{kernel_index, row_at}
+use Prim.Native.Nat.{◌≤◌, ◌<◌}
+use mathlib.Core.Path.{◌≡◌}
+use Rattle.kernel.specs.Row.{kernel_index}
 use Rattle.state.specs.Lists.{problem, state}
 use Rattle.reconstruct.specs.Reconstruct.{weighted_to}
-use borrow.Author.Rules.{rules}
 use Rattle.reconstruct.proofs.weighted.Given as goal
 
 abbrev pub invariant-loop-j : goal.invariant-loop-j

@@ -1,4 +1,3 @@
-use borrow.Author.Rules.{rules}
 use Rattle.rho.proofs.calculate_rho_nu.Goals as goal
 
 pub returns : goal.returns

@@ -1,6 +1,5 @@
 use native.Mathlib.Omega.{arith}
 use Rattle.rho.specs.Rho.{joined_nu}
-use borrow.Author.Rules.{rules}
 use Rattle.rho.proofs.join.Goals as goal
 
 pub returns-then-counts : goal.returns-then-counts

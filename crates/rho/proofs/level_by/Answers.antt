@@ -1,5 +1,4 @@
 use Rattle.rho.specs.Rho.{level_by}
-use borrow.Author.Rules.{rules}
 use Rattle.rho.proofs.level_by.Goals as goal
 
 pub returns-then-nu : goal.returns-then-nu

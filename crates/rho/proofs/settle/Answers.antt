@@ -1,6 +1,5 @@
 use borrow.Author.Tests.{lt-ltb, le-ltb}
 use Rattle.rho.specs.Rho.{middle}
-use borrow.Author.Rules.{rules}
 use Rattle.rho.proofs.settle.Goals as goal
 
 pub returns-then-free-gt0 : goal.returns-then-free-gt0

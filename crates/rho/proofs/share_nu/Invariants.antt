@@ -1,10 +1,6 @@
-use Prim.Native.Nat.{◌≤◌, ◌-◌}
-use mathlib.Core.Path.{◌≡◌, refl}
-use native.Mathlib.Numerals.{add-one}
-use native.Mathlib.Omega.{arith}
-use lib.Ieee.{of_bits, div, neg}
+use Prim.Native.Nat.{◌≤◌}
+use mathlib.Core.Path.{◌≡◌}
 use Rattle.rho.specs.Rho.{share_nu}
-use borrow.Author.Rules.{rules}
 use Rattle.rho.proofs.share_nu.Given as goal
 
 abbrev pub invariant-loop-k : goal.invariant-loop-k

@@ -1,4 +1,3 @@
-use borrow.Author.Rules.{rules}
 use Rattle.rho.specs.Rho.{ub_moved}
 use Rattle.rho.proofs.ub_moved.Goals as goal
 

@@ -1,4 +1,3 @@
-use borrow.Author.Rules.{rules}
 use Rattle.rho.proofs.ub_raised.Goals as goal
 
 pub returns : goal.returns

@@ -1,6 +1,5 @@
 use native.Mathlib.Omega.{arith}
 use Rattle.rho.specs.Rho.{share_with_c}
-use borrow.Author.Rules.{rules}
 use Rattle.rho.proofs.weigh.Goals as goal
 
 pub returns-then-positive : goal.returns-then-positive

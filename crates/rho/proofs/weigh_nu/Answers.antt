@@ -4,7 +4,6 @@ use native.Mathlib.Omega.{arith}
 use lib.Ieee.{Float}
 use Rattle.rho.specs.Rho.{ub_moved, share_with_nu}
 use Rattle.rho.specs.declared.Share.{Share}
-use borrow.Author.Rules.{rules}
 use Rattle.rho.proofs.weigh_nu.Goals as goal
 
 moved_free : (x : Bool) (s : Share) (g : Float) → (ub_moved x s g).free ≤ s.free + 1

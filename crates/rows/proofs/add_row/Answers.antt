@@ -1,10 +1,7 @@
-use Prim.Native.Nat.{◌≤◌, ◌<◌, ◌-◌}
 use mathlib.Core.Path.{◌≡◌, refl}
 use native.Mathlib.Numerals.{add-one}
 use native.Mathlib.Omega.{arith}
-use lib.ListN.{length}
-use Rattle.kernel.specs.Row.{kernel_index, row_at}
-use Rattle.state.specs.Lists.{problem, state}
+use Rattle.kernel.specs.Row.{row_at}
 use Rattle.rows.specs.Added.{row_added}
 use borrow.Author.Rules.{rules}
 use Rattle.rows.proofs.add_row.Goals as goal

@@ -1,12 +1,9 @@
-use Prim.Native.Nat.{◌≤◌, ◌<◌, ◌-◌}
-use mathlib.Core.Path.{◌≡◌, refl}
-use native.Mathlib.Numerals.{add-one}
-use native.Mathlib.Omega.{arith}
+use Prim.Native.Nat.{◌≤◌, ◌<◌}
+use mathlib.Core.Path.{◌≡◌}
 use lib.ListN.{length}
-use Rattle.kernel.specs.Row.{kernel_index, row_at}
+use Rattle.kernel.specs.Row.{kernel_index}
 use Rattle.state.specs.Lists.{problem, state}
 use Rattle.rows.specs.Added.{row_added}
-use borrow.Author.Rules.{rules}
 use Rattle.rows.proofs.add_row.Given as goal
 
 abbrev pub invariant-loop-k : goal.invariant-loop-k

@@ -1,12 +1,10 @@
-use Prim.Native.Nat.{◌≤◌, ◌<◌, ◌-◌}
 use mathlib.Core.Path.{◌≡◌, refl}
 use native.Mathlib.Numerals.{add-one}
 use native.Mathlib.Omega.{arith}
-use lib.ListN.{length, length-set}
-use Rattle.kernel.specs.Row.{kernel_index, row_at}
-use Rattle.state.specs.Lists.{problem, state}
+use lib.ListN.{length-set}
+use Rattle.kernel.specs.Row.{row_at}
 use Rattle.rows.specs.Added.{row_added}
-use Rattle.rows.proofs.Both.{both, both_more}
+use Rattle.rows.proofs.Both.{both_more}
 use borrow.Author.Rules.{rules}
 use Rattle.rows.proofs.add_row_to_both.Goals as goal
 

@@ -1,13 +1,9 @@
-use Prim.Native.Nat.{◌≤◌, ◌<◌, ◌-◌}
-use mathlib.Core.Path.{◌≡◌, refl}
-use native.Mathlib.Numerals.{add-one}
-use native.Mathlib.Omega.{arith}
-use lib.ListN.{length, length-set}
-use Rattle.kernel.specs.Row.{kernel_index, row_at}
+use Prim.Native.Nat.{◌≤◌, ◌<◌}
+use mathlib.Core.Path.{◌≡◌}
+use lib.ListN.{length}
+use Rattle.kernel.specs.Row.{kernel_index}
 use Rattle.state.specs.Lists.{problem, state}
-use Rattle.rows.specs.Added.{row_added}
-use Rattle.rows.proofs.Both.{both, both_more}
-use borrow.Author.Rules.{rules}
+use Rattle.rows.proofs.Both.{both}
 use Rattle.rows.proofs.add_row_to_both.Given as goal
 
 abbrev pub invariant-loop-k : goal.invariant-loop-k

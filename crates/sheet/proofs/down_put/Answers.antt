@@ -1,6 +1,5 @@
 use mathlib.Core.Path.{sym, ◌∙◌}
 use lib.Ieee.{of_bits, div, neg}
-use borrow.Author.Rules.{rules}
 use Rattle.sheet.proofs.down_put.Goals as goal
 
 pub returns-then-falls : goal.returns-then-falls

@@ -1,5 +1,4 @@
 use Rattle.orderless.specs.Step.{pair_for}
-use borrow.Author.Rules.{rules}
 use Rattle.sheet.proofs.pair_for.Goals as goal
 
 pub returns : goal.returns

@@ -1,7 +1,6 @@
 use native.Mathlib.Omega.{arith}
 use lib.ListN.{length-set}
 use Rattle.orderless.specs.Step.{put_in}
-use borrow.Author.Rules.{rules}
 use Rattle.sheet.proofs.put.Goals as goal
 
 pub bounds-f-n-2 : goal.bounds-f-n-2

@@ -1,7 +1,6 @@
 use native.Mathlib.Omega.{arith}
 use lib.ListN.{length-set}
 use Rattle.orderless.specs.Step.{raised_in}
-use borrow.Author.Rules.{rules}
 use Rattle.sheet.proofs.raise.Goals as goal
 
 pub bounds-f-n : goal.bounds-f-n

@@ -1,10 +1,6 @@
-use Prim.Native.Nat.{◌≤◌, ◌-◌}
 use mathlib.Core.Path.{◌≡◌, refl, ◌∙◌}
 use native.Mathlib.Numerals.{add-one}
 use native.Mathlib.Omega.{arith}
-use lib.Ieee.{binary64, add, mul}
-use lib.ListN.{length}
-use Rattle.kernel.specs.Matrix.{entry_at}
 use Rattle.orderless.specs.Step.{shift_in}
 use borrow.Author.Rules.{rules}
 use Rattle.sheet.proofs.shift.Goals as goal

@@ -1,7 +1,6 @@
 use mathlib.Core.Path.{◌∙◌}
 use native.Mathlib.Omega.{arith}
 use Rattle.sheet.proofs.Steps.{step_is}
-use borrow.Author.Rules.{rules}
 use Rattle.sheet.proofs.step.Goals as goal
 
 pub place-requires : goal.place-requires

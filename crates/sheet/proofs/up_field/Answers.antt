@@ -1,5 +1,4 @@
 use Rattle.sheet.proofs.Fields.{behind_four, at_zero}
-use borrow.Author.Rules.{rules}
 use Rattle.sheet.proofs.up_field.Goals as goal
 
 pub returns-then-nu-t : goal.returns-then-nu-t

@@ -1,7 +1,6 @@
 use mathlib.Core.Path.{sym, ◌∙◌}
 use lib.Ieee.{of_bits, div}
 use Rattle.sheet.proofs.Fields.{sought_is}
-use borrow.Author.Rules.{rules}
 use Rattle.sheet.proofs.up_put.Goals as goal
 
 pub returns-then-sought-rises : goal.returns-then-sought-rises

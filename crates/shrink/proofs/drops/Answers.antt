@@ -1,5 +1,4 @@
 use Rattle.shrink.specs.Drops.{drops_at}
-use borrow.Author.Rules.{rules}
 use Rattle.shrink.proofs.drops.Goals as goal
 
 pub returns : goal.returns

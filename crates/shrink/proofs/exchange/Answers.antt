@@ -2,7 +2,6 @@ use mathlib.Core.Path.{refl}
 use Rattle.state.specs.Lists.{state}
 use Rattle.state.specs.Moving.{moved}
 use Rattle.shrink.proofs.Laws.{exchanged_far, exchanged_near}
-use borrow.Author.Rules.{rules}
 use Rattle.shrink.proofs.exchange.Goals as goal
 
 pub returns-then-i-a : goal.returns-then-i-a

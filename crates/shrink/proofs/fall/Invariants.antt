@@ -1,12 +1,8 @@
 use Prim.Native.Nat.{◌≤◌}
-use mathlib.Core.Path.{◌≡◌, refl, sym, ◌∙◌}
-use native.Mathlib.Omega.{arith}
-use borrow.Author.Tests.{not-true, not-false}
+use mathlib.Core.Path.{◌≡◌}
 use Rattle.state.specs.Lists.{state}
 use Rattle.shrink.specs.Walk.{count_fallen}
 use Rattle.shrink.specs.Drops.{drops_at}
-use Rattle.shrink.proofs.Laws.{fallen_kept, fallen_dropped, fallen_end}
-use borrow.Author.Rules.{rules}
 use Rattle.shrink.proofs.fall.Given as goal
 
 abbrev pub invariant-loop-a : goal.invariant-loop-a

@@ -1,5 +1,4 @@
 use Rattle.shrink.specs.Drops.{drops_by}
-use borrow.Author.Rules.{rules}
 use Rattle.shrink.proofs.should_shrunk.Goals as goal
 
 pub returns-then-reached_upper : goal.returns-then-reached_upper

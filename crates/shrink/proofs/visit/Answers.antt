@@ -1,10 +1,8 @@
 use mathlib.Core.Path.{sym, ◌∙◌}
 use native.Mathlib.Omega.{arith}
-use borrow.Author.Tests.{not-true, not-false}
 use Rattle.state.specs.Moving.{moved}
 use Rattle.shrink.specs.Drops.{drops_at}
 use Rattle.shrink.proofs.Laws.{visited_refused, visited_past, visited_kept, visited_none, visited_some}
-use borrow.Author.Rules.{rules}
 use Rattle.shrink.proofs.visit.Goals as goal
 
 pub returns-then-w : goal.returns-then-w

@@ -1,13 +1,7 @@
-use Prim.Native.Nat.{◌≤◌, ◌-◌}
 use mathlib.Core.Path.{◌≡◌, refl, ◌∙◌}
 use native.Mathlib.Numerals.{add-one}
 use native.Mathlib.Omega.{arith}
-use lib.ListN.{length}
-use Rattle.state.specs.Lists.{State, state}
-use Rattle.state.specs.Moving.{moved}
-use Rattle.shrink.specs.Walk.{Walking, walking, walked}
-use Rattle.shrink.specs.Drops.{drops_at}
-use borrow.Author.Rules.{rules}
+use Rattle.shrink.specs.Walk.{walked}
 use Rattle.shrink.proofs.walk_over.Goals as goal
 
 pub loop-i-init : goal.loop-i-init

@@ -1,13 +1,10 @@
-use Prim.Native.Nat.{◌≤◌, ◌-◌}
-use mathlib.Core.Path.{◌≡◌, refl, ◌∙◌}
-use native.Mathlib.Numerals.{add-one}
-use native.Mathlib.Omega.{arith}
+use Prim.Native.Nat.{◌≤◌}
+use mathlib.Core.Path.{◌≡◌}
 use lib.ListN.{length}
 use Rattle.state.specs.Lists.{State, state}
 use Rattle.state.specs.Moving.{moved}
 use Rattle.shrink.specs.Walk.{Walking, walking, walked}
 use Rattle.shrink.specs.Drops.{drops_at}
-use borrow.Author.Rules.{rules}
 use Rattle.shrink.proofs.walk_over.Given as goal
 
 abbrev pub invariant-loop-i : goal.invariant-loop-i

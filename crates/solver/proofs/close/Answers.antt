@@ -2,7 +2,6 @@ use mathlib.Core.Path.{ap, ◌∙◌}
 use native.Mathlib.Omega.{arith}
 use Rattle.solver.specs.Run.{active_at, Full, full, with_run}
 use Rattle.solver.proofs.Laws.{closed_out, closed_in}
-use borrow.Author.Rules.{rules}
 use Rattle.solver.proofs.close.Goals as goal
 
 pub returns-then-r-budget : goal.returns-then-r-budget

@@ -2,7 +2,6 @@ use mathlib.Core.Path.{◌∙◌}
 use native.Mathlib.Omega.{arith}
 use Rattle.solver.specs.Run.{full}
 use Rattle.solver.proofs.Laws.{counted_some, counted_none, counted_shrunk}
-use borrow.Author.Rules.{rules}
 use Rattle.solver.proofs.count_down.Goals as goal
 
 pub returns-then-c-gt0 : goal.returns-then-c-gt0

@@ -1,5 +1,4 @@
 use Rattle.solver.specs.Run.{goes}
-use borrow.Author.Rules.{rules}
 use Rattle.solver.proofs.going.Goals as goal
 
 pub returns-in-Going : goal.returns-in-Going

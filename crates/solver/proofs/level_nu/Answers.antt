@@ -1,5 +1,4 @@
 use Rattle.solver.specs.Pass.{level_nu}
-use borrow.Author.Rules.{rules}
 use Rattle.solver.proofs.level_nu.Goals as goal
 
 pub returns-then-x : goal.returns-then-x

@@ -2,7 +2,6 @@ use mathlib.Core.Path.{sym, ◌∙◌}
 use native.Mathlib.Omega.{arith}
 use Rattle.solver.specs.Run.{full}
 use Rattle.solver.proofs.Laws.{chosen_below, looked_pair, looked_none}
-use borrow.Author.Rules.{rules}
 use Rattle.solver.proofs.look.Goals as goal
 
 pub step-requires : goal.step-requires

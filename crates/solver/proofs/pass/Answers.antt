@@ -3,7 +3,6 @@ use native.Mathlib.Omega.{arith}
 use Rattle.state.proofs.Kept.{ready_floats}
 use Rattle.solver.specs.Run.{Full, full}
 use Rattle.solver.proofs.Laws.{counted_iterations, passed_on_law, passed_off}
-use borrow.Author.Rules.{rules}
 use Rattle.solver.proofs.pass.Goals as goal
 
 pub work-requires : goal.work-requires

@@ -1,5 +1,4 @@
 use Rattle.solver.specs.Pass.{rebuilt}
-use borrow.Author.Rules.{rules}
 use Rattle.solver.proofs.rebuild.Goals as goal
 
 pub returns : goal.returns

@@ -1,6 +1,5 @@
 use Rattle.solver.specs.Run.{full}
 use Rattle.solver.proofs.Laws.{refreshed_by}
-use borrow.Author.Rules.{rules}
 use Rattle.solver.proofs.refresh.Goals as goal
 
 pub returns : goal.returns

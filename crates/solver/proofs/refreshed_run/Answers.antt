@@ -1,6 +1,5 @@
 use mathlib.Core.Path.{refl, sym, ◌∙◌}
 use native.Mathlib.Omega.{arith}
-use borrow.Author.Rules.{rules}
 use Rattle.solver.proofs.refreshed_run.Goals as goal
 
 pub returns-then-is_repaired : goal.returns-then-is_repaired

@@ -2,7 +2,6 @@ use mathlib.Core.Path.{ap, ◌∙◌}
 use native.Mathlib.Omega.{arith}
 use Rattle.solver.specs.Run.{Full, full, with_run, reopened}
 use Rattle.solver.proofs.Laws.{restored_before, restored_high, restored_low}
-use borrow.Author.Rules.{rules}
 use Rattle.solver.proofs.restore.Goals as goal
 
 pub returns-then-r : goal.returns-then-r

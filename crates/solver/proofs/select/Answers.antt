@@ -1,5 +1,4 @@
 use Rattle.solver.specs.Pass.{chosen}
-use borrow.Author.Rules.{rules}
 use Rattle.solver.proofs.select.Goals as goal
 
 pub returns-then-g : goal.returns-then-g

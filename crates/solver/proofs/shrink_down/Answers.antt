@@ -7,7 +7,6 @@ use Rattle.state.specs.Lists.{State, Ready}
 use Rattle.state.proofs.Kept.{ready_floats}
 use Rattle.solver.specs.Run.{problem_of, full}
 use Rattle.solver.proofs.Laws.{shrunk_by}
-use borrow.Author.Rules.{rules}
 use Rattle.solver.proofs.shrink_down.Goals as goal
 
 pub walk_over-w-requires : goal.walk_over-w-requires

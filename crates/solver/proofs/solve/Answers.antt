@@ -1,14 +1,10 @@
-use Prim.Native.Nat.{◌+◌, ◌-◌, ◌≤◌}
+use Prim.Native.Nat.{◌+◌, ◌-◌}
 use mathlib.Core.Path.{◌≡◌, refl, sym, ap, ◌∙◌}
 use native.Mathlib.Numerals.{add-one}
 use native.Mathlib.Omega.{arith}
-use borrow.Author.Tests.{not-true, not-false}
-use lib.ListN.{length}
-use Rattle.state.specs.Lists.{state, Ready}
-use Rattle.solver.specs.Run.{problem_of, Full, full, goes, Sound}
+use Rattle.solver.specs.Run.{Full, full, goes}
 use Rattle.solver.specs.Pass.{runs}
 use Rattle.solver.proofs.Laws.{runs_on, runs_off}
-use borrow.Author.Rules.{rules}
 use Rattle.solver.proofs.solve.Goals as goal
 
 pub loop-t-init : goal.loop-t-init

@@ -1,14 +1,9 @@
-use Prim.Native.Nat.{◌+◌, ◌-◌, ◌≤◌}
-use mathlib.Core.Path.{◌≡◌, refl, sym, ap, ◌∙◌}
-use native.Mathlib.Numerals.{add-one}
-use native.Mathlib.Omega.{arith}
-use borrow.Author.Tests.{not-true, not-false}
+use Prim.Native.Nat.{◌-◌, ◌≤◌}
+use mathlib.Core.Path.{◌≡◌}
 use lib.ListN.{length}
 use Rattle.state.specs.Lists.{state, Ready}
-use Rattle.solver.specs.Run.{problem_of, Full, full, goes, Sound}
+use Rattle.solver.specs.Run.{problem_of, Full, full, Sound}
 use Rattle.solver.specs.Pass.{runs}
-use Rattle.solver.proofs.Laws.{runs_on, runs_off}
-use borrow.Author.Rules.{rules}
 use Rattle.solver.proofs.solve.Given as goal
 
 abbrev pub invariant-loop-t : goal.invariant-loop-t

@@ -1,6 +1,5 @@
 use native.Mathlib.Omega.{arith}
 use Rattle.solver.specs.Pass.{stepped}
-use borrow.Author.Rules.{rules}
 use Rattle.solver.proofs.step.Goals as goal
 
 pub returns : goal.returns

@@ -1,4 +1,3 @@
-use borrow.Author.Rules.{rules}
 use Rattle.solver.proofs.tops_c.Goals as goal
 
 pub returns : goal.returns

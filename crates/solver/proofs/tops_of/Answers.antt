@@ -6,7 +6,6 @@ use Rattle.extreme.specs.declared.Extreme.{Extreme}
 use Rattle.solver.specs.Pass.{tops_c, tops_nu}
 use Rattle.solver.specs.Run.{full}
 use Rattle.solver.proofs.Laws.{tops_nu_law, tops_c_law}
-use borrow.Author.Rules.{rules}
 use Rattle.solver.proofs.tops_of.Goals as goal
 
 pub returns-then-g : goal.returns-then-g

@@ -1,7 +1,6 @@
 use Rattle.state.specs.Lists.{state}
 use Rattle.state.proofs.Kept.{ready_floats}
 use Rattle.solver.proofs.Laws.{trained_by}
-use borrow.Author.Rules.{rules}
 use Rattle.solver.proofs.train.Goals as goal
 
 pub solve-r-requires : goal.solve-r-requires

@@ -3,7 +3,6 @@ use native.Mathlib.Omega.{arith}
 use Rattle.solver.specs.Run.{full}
 use Rattle.state.proofs.Kept.{ready_floats}
 use Rattle.solver.proofs.Laws.{chosen_below, worked_pair, worked_none}
-use borrow.Author.Rules.{rules}
 use Rattle.solver.proofs.work.Goals as goal
 
 pub step-requires : goal.step-requires

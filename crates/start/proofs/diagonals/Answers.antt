@@ -1,8 +1,6 @@
-use Prim.Native.Nat.{◌≤◌, ◌-◌}
 use mathlib.Core.Path.{◌≡◌, refl}
 use native.Mathlib.Numerals.{add-one}
 use native.Mathlib.Omega.{arith}
-use lib.ListN.{length}
 use Rattle.start.specs.Start.{diagonal_to}
 use borrow.Author.Rules.{rules}
 use Rattle.start.proofs.diagonals.Goals as goal

@@ -1,10 +1,7 @@
-use Prim.Native.Nat.{◌≤◌, ◌-◌}
-use mathlib.Core.Path.{◌≡◌, refl}
-use native.Mathlib.Numerals.{add-one}
-use native.Mathlib.Omega.{arith}
+use Prim.Native.Nat.{◌≤◌}
+use mathlib.Core.Path.{◌≡◌}
 use lib.ListN.{length}
 use Rattle.start.specs.Start.{diagonal_to}
-use borrow.Author.Rules.{rules}
 use Rattle.start.proofs.diagonals.Given as goal
 
 abbrev pub invariant-loop-c : goal.invariant-loop-c

@@ -1,6 +1,5 @@
 use mathlib.Core.Path.{sym, ◌∙◌}
 use Rattle.start.proofs.Joined.{at_lower_law, between, at_upper_law}
-use borrow.Author.Rules.{rules}
 use Rattle.start.proofs.join.Goals as goal
 
 pub returns-then-reached_lower : goal.returns-then-reached_lower

@@ -1,7 +1,6 @@
 use mathlib.Core.Path.{◌∙◌}
 use Rattle.state.proofs.Kept.{ready_floats}
 use Rattle.start.specs.Start.{started}
-use borrow.Author.Rules.{rules}
 use Rattle.start.proofs.start.Goals as goal
 
 pub gather-requires : goal.gather-requires

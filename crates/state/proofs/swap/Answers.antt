@@ -1,5 +1,4 @@
 use Rattle.state.specs.Moving.{moved}
-use borrow.Author.Rules.{rules}
 use Rattle.state.proofs.swap.Goals as goal
 
 pub returns : goal.returns

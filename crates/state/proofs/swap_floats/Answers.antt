@@ -1,6 +1,5 @@
 use mathlib.Core.Path.{refl}
 use Rattle.state.specs.Moving.{swapped}
-use borrow.Author.Rules.{rules}
 use Rattle.state.proofs.swap_floats.Goals as goal
 
 pub returns : goal.returns

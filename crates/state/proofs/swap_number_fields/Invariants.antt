@@ -1,11 +1,7 @@
-use Prim.Native.Nat.{◌≤◌, ◌-◌}
-use mathlib.Core.Path.{◌≡◌, refl}
-use native.Mathlib.Numerals.{add-one}
-use native.Mathlib.Omega.{arith}
+use Prim.Native.Nat.{◌≤◌}
+use mathlib.Core.Path.{◌≡◌}
 use lib.ListN.{length}
 use Rattle.state.specs.Moving.{swapped_fields}
-use Rattle.state.proofs.Within.{within}
-use borrow.Author.Rules.{rules}
 use Rattle.state.proofs.swap_number_fields.Given as goal
 
 abbrev pub invariant-loop-f : goal.invariant-loop-f

@@ -1,6 +1,5 @@
 use borrow.Author.Tests.{lt-ltb, le-ltb}
 use Rattle.trial.specs.Trial.{coded_of}
-use borrow.Author.Rules.{rules}
 use Rattle.trial.proofs.coded.Goals as goal
 
 pub returns-then-passes-gt10000000 : goal.returns-then-passes-gt10000000

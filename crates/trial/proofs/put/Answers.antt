@@ -1,7 +1,6 @@
 use mathlib.Core.Path.{refl}
 use native.Mathlib.Omega.{arith}
 use lib.ListN.{length-set}
-use borrow.Author.Rules.{rules}
 use Rattle.trial.proofs.put.Goals as goal
 
 pub bounds-out-1 : goal.bounds-out-1

@@ -3,7 +3,6 @@ use mathlib.Core.Path.{ap, ◌∙◌}
 use lib.Dec.{eqb}
 use Rattle.solver.specs.Run.{Full}
 use Rattle.trial.specs.Trial.{coded_of, out_of}
-use borrow.Author.Rules.{rules}
 use Rattle.trial.proofs.trial_run.Goals as goal
 
 pub returns : goal.returns

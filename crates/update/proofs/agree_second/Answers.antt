@@ -1,5 +1,4 @@
 use Rattle.update.specs.Pair.{agree_second}
-use borrow.Author.Rules.{rules}
 use Rattle.update.proofs.agree_second.Goals as goal
 
 pub returns-then-sum-p : goal.returns-then-sum-p

@@ -1,5 +1,4 @@
 use Rattle.update.specs.Pair.{j_capped}
-use borrow.Author.Rules.{rules}
 use Rattle.update.proofs.cap_j.Goals as goal
 
 pub returns-then-p : goal.returns-then-p

@@ -1,7 +1,6 @@
 use native.Mathlib.Omega.{arith}
 use Rattle.state.proofs.Kept.{ready_floats}
 use Rattle.update.specs.Update.{carried}
-use borrow.Author.Rules.{rules}
 use Rattle.update.proofs.carry.Goals as goal
 
 pub settle-requires : goal.settle-requires

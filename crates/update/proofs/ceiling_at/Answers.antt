@@ -1,6 +1,5 @@
 use mathlib.Core.Path.{sym, ◌∙◌}
 use Rattle.update.specs.Update.{ceiling_in}
-use borrow.Author.Rules.{rules}
 use Rattle.update.proofs.ceiling_at.Goals as goal
 
 pub returns-then-travels : goal.returns-then-travels

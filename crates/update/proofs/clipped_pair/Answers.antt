@@ -1,5 +1,4 @@
 use Rattle.update.specs.Pair.{pair_of, clipped_step}
-use borrow.Author.Rules.{rules}
 use Rattle.update.proofs.clipped_pair.Goals as goal
 
 pub returns-then-agree : goal.returns-then-agree

@@ -1,5 +1,4 @@
 use Rattle.update.specs.Pair.{agreed}
-use borrow.Author.Rules.{rules}
 use Rattle.update.proofs.concur.Goals as goal
 
 pub returns : goal.returns

@@ -1,6 +1,5 @@
 use mathlib.Core.Path.{sym, ◌∙◌}
 use Rattle.update.specs.Update.{counted_upper}
-use borrow.Author.Rules.{rules}
 use Rattle.update.proofs.counted_upper.Goals as goal
 
 pub returns-then-repaired : goal.returns-then-repaired

@@ -1,4 +1,3 @@
-use borrow.Author.Rules.{rules}
 use Rattle.update.proofs.diagonal_at.Goals as goal
 
 pub returns : goal.returns

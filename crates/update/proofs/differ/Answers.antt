@@ -1,5 +1,4 @@
 use Rattle.update.specs.Pair.{differed}
-use borrow.Author.Rules.{rules}
 use Rattle.update.proofs.differ.Goals as goal
 
 pub returns : goal.returns

@@ -1,5 +1,4 @@
 use Rattle.update.specs.Pair.{differ_high}
-use borrow.Author.Rules.{rules}
 use Rattle.update.proofs.differ_high.Goals as goal
 
 pub returns-then-diff-p : goal.returns-then-diff-p

@@ -1,5 +1,4 @@
 use Rattle.update.specs.Pair.{differ_low}
-use borrow.Author.Rules.{rules}
 use Rattle.update.proofs.differ_low.Goals as goal
 
 pub returns-then-diff : goal.returns-then-diff

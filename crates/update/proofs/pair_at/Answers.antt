@@ -1,6 +1,5 @@
 use native.Mathlib.Omega.{arith}
 use Rattle.update.specs.Update.{pair_at}
-use borrow.Author.Rules.{rules}
 use Rattle.update.proofs.pair_at.Goals as goal
 
 pub returns : goal.returns

@@ -1,5 +1,4 @@
 use Rattle.update.specs.Pair.{i_raised}
-use borrow.Author.Rules.{rules}
 use Rattle.update.proofs.raise_i.Goals as goal
 
 pub returns-then-p : goal.returns-then-p

@@ -1,7 +1,6 @@
 use mathlib.Core.Path.{sym, ◌∙◌}
 use native.Mathlib.Omega.{arith}
 use Rattle.update.specs.Update.{j_reach}
-use borrow.Author.Rules.{rules}
 use Rattle.update.proofs.reach.Goals as goal
 
 pub returns-then-repaired : goal.returns-then-repaired

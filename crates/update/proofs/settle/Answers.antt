@@ -4,7 +4,6 @@ use lib.ListN.{length-set}
 use Rattle.state.proofs.Kept.{ready_floats}
 use Rattle.update.specs.Update.{stored, settled}
 use Rattle.update.proofs.Turned.{kept, told}
-use borrow.Author.Rules.{rules}
 use Rattle.update.proofs.settle.Goals as goal
 
 pub bounds-f-n-2 : goal.bounds-f-n-2

@@ -1,5 +1,4 @@
 use Rattle.update.specs.Update.{updated}
-use borrow.Author.Rules.{rules}
 use Rattle.update.proofs.update.Goals as goal
 
 pub returns : goal.returns

@@ -1,9 +1,6 @@
-use Prim.Native.Nat.{◌≤◌, ◌-◌}
-use mathlib.Core.Bool.{true}
-use mathlib.Core.Path.{◌≡◌}
 use native.Mathlib.Omega.{arith}
 use Rattle.judge.specs.Judge.{entry_good}
-use Rattle.verdict.proofs.Quick.{Each, none, one_more}
+use Rattle.verdict.proofs.Quick.{none, one_more}
 use borrow.Author.Rules.{rules}
 use Rattle.verdict.proofs.all_small.Goals as goal
 

@@ -1,10 +1,8 @@
-use Prim.Native.Nat.{◌≤◌, ◌-◌}
+use Prim.Native.Nat.{◌≤◌}
 use mathlib.Core.Bool.{true}
 use mathlib.Core.Path.{◌≡◌}
-use native.Mathlib.Omega.{arith}
 use Rattle.judge.specs.Judge.{entry_good}
-use Rattle.verdict.proofs.Quick.{Each, none, one_more}
-use borrow.Author.Rules.{rules}
+use Rattle.verdict.proofs.Quick.{Each}
 use Rattle.verdict.proofs.all_small.Given as goal
 
 abbrev pub invariant-loop-k : goal.invariant-loop-k

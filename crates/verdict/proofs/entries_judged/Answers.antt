@@ -1,8 +1,7 @@
-use Prim.Native.Nat.{◌≤◌, ◌-◌}
-use mathlib.Core.Path.{◌≡◌, sym, ◌∙◌}
+use mathlib.Core.Path.{sym, ◌∙◌}
 use native.Mathlib.Nat.{sub-zero}
 use native.Mathlib.Omega.{arith}
-use Rattle.judge.specs.Judge.{first, entry_good}
+use Rattle.judge.specs.Judge.{entry_good}
 use Rattle.judge.proofs.First.{on, stop, done}
 use borrow.Author.Rules.{rules}
 use Rattle.verdict.proofs.entries_judged.Goals as goal

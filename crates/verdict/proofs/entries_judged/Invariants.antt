@@ -1,10 +1,6 @@
 use Prim.Native.Nat.{◌≤◌, ◌-◌}
-use mathlib.Core.Path.{◌≡◌, sym, ◌∙◌}
-use native.Mathlib.Nat.{sub-zero}
-use native.Mathlib.Omega.{arith}
+use mathlib.Core.Path.{◌≡◌}
 use Rattle.judge.specs.Judge.{first, entry_good}
-use Rattle.judge.proofs.First.{on, stop, done}
-use borrow.Author.Rules.{rules}
 use Rattle.verdict.proofs.entries_judged.Given as goal
 
 abbrev pub invariant-loop-i : goal.invariant-loop-i

@@ -1,5 +1,4 @@
 use Rattle.judge.specs.Judge.{general_judged}
-use borrow.Author.Rules.{rules}
 use Rattle.verdict.proofs.general_judged.Goals as goal
 
 pub returns : goal.returns

@@ -1,7 +1,6 @@
 use native.Mathlib.Nat.{add-zero}
 use native.Mathlib.Omega.{arith}
 use Rattle.wire.specs.Wire.{digits}
-use borrow.Author.Rules.{rules}
 use Rattle.verdict.proofs.half_at.Goals as goal
 
 pub returns : goal.returns

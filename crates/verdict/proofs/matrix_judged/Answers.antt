@@ -3,7 +3,6 @@ use native.Mathlib.Omega.{arith}
 use Rattle.judge.specs.Judge.{entry_good}
 use Rattle.judge.proofs.First.{fine_first}
 use Rattle.judge.proofs.Lengths.{square}
-use borrow.Author.Rules.{rules}
 use Rattle.verdict.proofs.matrix_judged.Goals as goal
 
 pub all_small-requires : goal.all_small-requires

@@ -1,5 +1,4 @@
 use Rattle.judge.specs.Judge.{one_class_judged}
-use borrow.Author.Rules.{rules}
 use Rattle.verdict.proofs.one_class_judged.Goals as goal
 
 pub returns : goal.returns

@@ -3,7 +3,6 @@ use native.Mathlib.Omega.{arith}
 use borrow.Author.Tests.{ltb-true}
 use Rattle.wire.specs.Wire.{digits}
 use Rattle.verdict.proofs.Quick.{small_good}
-use borrow.Author.Rules.{rules}
 use Rattle.verdict.proofs.surely_small.Goals as goal
 
 pub returns : goal.returns

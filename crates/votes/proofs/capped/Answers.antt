@@ -1,5 +1,4 @@
 use native.Mathlib.Omega.{arith}
-use borrow.Author.Rules.{rules}
 use Rattle.votes.proofs.capped.Goals as goal
 
 pub returns-then-more-most : goal.returns-then-more-most

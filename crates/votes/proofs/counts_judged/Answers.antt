@@ -1,9 +1,7 @@
-use Prim.Native.Nat.{◌≤◌, ◌-◌}
-use mathlib.Core.Path.{◌≡◌, sym, ◌∙◌}
+use mathlib.Core.Path.{sym, ◌∙◌}
 use native.Mathlib.Nat.{sub-zero}
 use native.Mathlib.Omega.{arith}
 use borrow.Author.Tests.{eq-eqb, ne_eqb}
-use Rattle.judge.specs.Judge.{first}
 use Rattle.judge.proofs.First.{on, stop, done}
 use Rattle.votes.specs.Entry.{counts_good}
 use borrow.Author.Rules.{rules}

@@ -1,12 +1,7 @@
 use Prim.Native.Nat.{◌≤◌, ◌-◌}
-use mathlib.Core.Path.{◌≡◌, sym, ◌∙◌}
-use native.Mathlib.Nat.{sub-zero}
-use native.Mathlib.Omega.{arith}
-use borrow.Author.Tests.{eq-eqb, ne_eqb}
+use mathlib.Core.Path.{◌≡◌}
 use Rattle.judge.specs.Judge.{first}
-use Rattle.judge.proofs.First.{on, stop, done}
 use Rattle.votes.specs.Entry.{counts_good}
-use borrow.Author.Rules.{rules}
 use Rattle.votes.proofs.counts_judged.Given as goal
 
 abbrev pub invariant-loop-p : goal.invariant-loop-p

@@ -1,8 +1,6 @@
-use Prim.Native.Nat.{◌≤◌, ◌-◌}
 use mathlib.Core.Path.{◌≡◌, refl}
 use native.Mathlib.Numerals.{add-one}
 use native.Mathlib.Omega.{arith}
-use lib.ListN.{length, get_or}
 use Rattle.votes.specs.Entry.{votes_laid}
 use borrow.Author.Rules.{rules}
 use Rattle.votes.proofs.lay.Goals as goal

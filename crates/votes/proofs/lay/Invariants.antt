@@ -1,10 +1,7 @@
-use Prim.Native.Nat.{◌≤◌, ◌-◌}
-use mathlib.Core.Path.{◌≡◌, refl}
-use native.Mathlib.Numerals.{add-one}
-use native.Mathlib.Omega.{arith}
+use Prim.Native.Nat.{◌≤◌}
+use mathlib.Core.Path.{◌≡◌}
 use lib.ListN.{length, get_or}
 use Rattle.votes.specs.Entry.{votes_laid}
-use borrow.Author.Rules.{rules}
 use Rattle.votes.proofs.lay.Given as goal
 
 abbrev pub invariant-loop-x : goal.invariant-loop-x

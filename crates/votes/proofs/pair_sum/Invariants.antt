@@ -1,9 +1,6 @@
-use Prim.Native.Nat.{◌≤◌, ◌-◌}
-use mathlib.Core.Path.{◌≡◌, refl}
-use native.Mathlib.Numerals.{add-one}
-use native.Mathlib.Omega.{arith}
+use Prim.Native.Nat.{◌≤◌}
+use mathlib.Core.Path.{◌≡◌}
 use Rattle.votes.specs.Votes.{pair_sum_to}
-use borrow.Author.Rules.{rules}
 use Rattle.votes.proofs.pair_sum.Given as goal
 
 abbrev pub invariant-loop-i : goal.invariant-loop-i

@@ -1,5 +1,4 @@
 use mathlib.Core.Path.{sym, ◌∙◌}
-use borrow.Author.Rules.{rules}
 use Rattle.votes.proofs.short_answer.Goals as goal
 
 pub returns-then-are_languages : goal.returns-then-are_languages

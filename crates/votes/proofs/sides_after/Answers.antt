@@ -1,6 +1,5 @@
 use borrow.Author.Tests.{lt-ltb, le-ltb}
 use Rattle.votes.specs.Votes.{sides_after}
-use borrow.Author.Rules.{rules}
 use Rattle.votes.proofs.sides_after.Goals as goal
 
 pub returns-then-s-k : goal.returns-then-s-k

@@ -1,8 +1,8 @@
-use Prim.Native.Nat.{ℕ, ◌-◌, ◌≤◌, ◌<◌}
+use Prim.Native.Nat.{◌<◌}
 use mathlib.Core.Path.{◌≡◌, refl, sym}
 use native.Mathlib.Numerals.{add-one}
 use native.Mathlib.Omega.{arith}
-use lib.ListN.{length, get_or, length-set, get_or-replicate}
+use lib.ListN.{length-set, get_or-replicate}
 use Rattle.votes.specs.Votes.{pairs_of, panel, sides_of, pair_start, vote_of, votes_to}
 use Rattle.votes.proofs.Pairs.{sides_ordered, pairs_few}
 use Rattle.votes.proofs.Laws.{votes_at_most}

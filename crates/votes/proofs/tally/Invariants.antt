@@ -1,13 +1,7 @@
-use Prim.Native.Nat.{ℕ, ◌-◌, ◌≤◌, ◌<◌}
-use mathlib.Core.Path.{◌≡◌, refl, sym}
-use native.Mathlib.Numerals.{add-one}
-use native.Mathlib.Omega.{arith}
-use lib.ListN.{length, get_or, length-set, get_or-replicate}
-use Rattle.votes.specs.Votes.{pairs_of, panel, sides_of, pair_start, vote_of, votes_to}
-use Rattle.votes.proofs.Pairs.{sides_ordered, pairs_few}
-use Rattle.votes.proofs.Laws.{votes_at_most}
-use Rattle.votes.proofs.Steps.{start_within, vote_counted, vote_made}
-use borrow.Author.Rules.{rules}
+use Prim.Native.Nat.{ℕ, ◌≤◌, ◌<◌}
+use mathlib.Core.Path.{◌≡◌}
+use lib.ListN.{length, get_or}
+use Rattle.votes.specs.Votes.{pairs_of, panel, sides_of, pair_start, votes_to}
 use Rattle.votes.proofs.tally.Given as goal
 
 abbrev pub invariant-loop-p : goal.invariant-loop-p

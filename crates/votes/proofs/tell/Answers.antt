@@ -1,5 +1,4 @@
 use Rattle.votes.specs.Entry.{election_told}
-use borrow.Author.Rules.{rules}
 use Rattle.votes.proofs.tell.Goals as goal
 
 pub returns : goal.returns

@@ -1,9 +1,6 @@
-use Prim.Native.Nat.{◌+◌, ◌-◌, ◌≤◌, min}
-use mathlib.Core.Path.{◌≡◌, ◌∙◌}
-use native.Mathlib.Numerals.{add-one}
-use native.Mathlib.Omega.{arith}
+use Prim.Native.Nat.{◌+◌, ◌≤◌, min}
+use mathlib.Core.Path.{◌≡◌}
 use Rattle.votes.specs.Votes.{pair_start}
-use borrow.Author.Rules.{rules}
 use Rattle.votes.proofs.total.Given as goal
 
 abbrev pub invariant-loop-i : goal.invariant-loop-i

@@ -7,7 +7,6 @@ use Rattle.votes.specs.Entry.{election, voted, voted_by, voted_on}
 use Rattle.votes.proofs.Laws.{winner_below}
 use Rattle.votes.proofs.Refusals.{judged_fine}
 use Rattle.votes.proofs.Steps.{laid_same, winner_same}
-use borrow.Author.Rules.{rules}
 use Rattle.votes.proofs.vote.Goals as goal
 
 pub tally-t-requires : goal.tally-t-requires

@@ -1,12 +1,7 @@
-use Prim.Native.Nat.{◌≤◌, ◌<◌, ◌-◌}
-use mathlib.Core.Path.{◌≡◌, refl}
-use native.Mathlib.Numerals.{add-one}
-use native.Mathlib.Omega.{arith}
-use lib.Dec.{ltb}
+use Prim.Native.Nat.{◌≤◌, ◌<◌}
+use mathlib.Core.Path.{◌≡◌}
 use lib.ListN.{get_or}
-use Rattle.votes.proofs.Laws.{either_below}
 use Rattle.votes.specs.Votes.{winner_to}
-use borrow.Author.Rules.{rules}
 use Rattle.votes.proofs.winner.Given as goal
 
 abbrev pub invariant-loop-x : goal.invariant-loop-x

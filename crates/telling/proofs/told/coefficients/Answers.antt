@@ -1,5 +1,3 @@
-use Prim.Native.Nat.{◌≤◌, ◌-◌}
-use borrow.Author.Rules.{rules}
 use Rattle.telling.proofs.told.coefficients.Goals as goal
 
 pub returns-then-part-gt8 : goal.returns-then-part-gt8

@@ -1,5 +1,4 @@
-use Prim.Native.Nat.{◌≤◌, ◌-◌}
-use borrow.Author.Rules.{rules}
+use Prim.Native.Nat.{◌≤◌}
 use Rattle.telling.proofs.told.coefficients.Given as goal
 
 abbrev pub invariant-loop-k : goal.invariant-loop-k
