@@ -15,7 +15,7 @@ use Rattle.altuliscia.proofs.altuliscia_general_tuned.Kinds as general-tuned-kin
 use Rattle.altuliscia.proofs.altuliscia_general_tuned.Reads as general-tuned-reads
 use Rattle.altuliscia.specs.contracts.altuliscia_retired.{signature as retired-signature}
 use Rattle.altuliscia.proofs.altuliscia_retired.Kinds as retired-kinds
-use Rattle.altuliscia.proofs.altuliscia_retired.Reads as retired_reads
+use Rattle.altuliscia.proofs.altuliscia_retired.Reads as retired-reads
 use Rattle.altuliscia.specs.contracts.altuliscia_c.{signature as c-signature}
 use Rattle.altuliscia.proofs.altuliscia_c.Kinds as c-kinds
 use Rattle.altuliscia.proofs.altuliscia_c.Reads as c-reads
@@ -37,7 +37,7 @@ use Rattle.altuliscia.proofs.altuliscia_one_class_tuned.Reads as one-class-tuned
 use Rattle.altuliscia.specs.Functions.{PairHanded, pair_handed, VotesHanded, votes_handed}
 use Rattle.altuliscia.specs.contracts.altuliscia_pair.{signature as pair-signature}
 use Rattle.altuliscia.proofs.altuliscia_pair.Kinds as pair-kinds
-use Rattle.altuliscia.proofs.altuliscia_pair.Reads as Pair-reads
+use Rattle.altuliscia.proofs.altuliscia_pair.Reads as pair-reads
 use Rattle.altuliscia.specs.contracts.altuliscia_votes.{signature as votes-signature}
 use Rattle.altuliscia.proofs.altuliscia_votes.Kinds as votes-kinds
 use Rattle.altuliscia.proofs.altuliscia_votes.Reads as votes-reads
@@ -64,7 +64,7 @@ abbrev retired_left : (κs : Lfts 10) → ResD retired-signature κs → AtExit 
 retired_left κs r s = handed r s.1.1.1.1.1.1.1.1.1.1.1.1.0.now s.1.1.1.1.1.1.1.1.1.1.1.1.1.0.now s.1.1.1.1.1.1.1.1.1.1.1.1.1.1.0.now
 
 pub retired_once : (κs : Lfts 10) (a : ArgsD retired-signature κs) (r r' : ResD retired-signature κs) (s s' : AtExit (ended_of 10 retired-kinds.ps retired-kinds.r) κs)
-    → retired_reads.Post κs a r s → retired_reads.Post κs a r' s' → ◌≡◌ {A = Handed} (retired_left κs r s) (retired_left κs r' s')
+    → retired-reads.Post κs a r s → retired-reads.Post κs a r' s' → ◌≡◌ {A = Handed} (retired_left κs r s) (retired_left κs r' s')
 retired_once κs a r r' s s' p q = p ∙ sym q
 
 abbrev c_left : (κs : Lfts 5) → ResD c-signature κs → AtExit (ended_of 5 c-kinds.ps c-kinds.r) κs → Handed
@@ -113,7 +113,7 @@ abbrev pair_left : (κs : Lfts 1) → ResD pair-signature κs → AtExit (ended_
 pair_left κs r s = pair_handed r s.1.1.1.1.1.1.1.1.1.1.0.now
 
 pub pair_once : (κs : Lfts 1) (a : ArgsD pair-signature κs) (r r' : ResD pair-signature κs) (s s' : AtExit (ended_of 1 pair-kinds.ps pair-kinds.r) κs)
-    → Pair-reads.Post κs a r s → Pair-reads.Post κs a r' s' → ◌≡◌ {A = PairHanded} (pair_left κs r s) (pair_left κs r' s')
+    → pair-reads.Post κs a r s → pair-reads.Post κs a r' s' → ◌≡◌ {A = PairHanded} (pair_left κs r s) (pair_left κs r' s')
 pair_once κs a r r' s s' p q = p ∙ sym q
 
 abbrev votes_left : (κs : Lfts 7) → ResD votes-signature κs → AtExit (ended_of 7 votes-kinds.ps votes-kinds.r) κs → VotesHanded

@@ -1,4 +1,4 @@
--- An entry with the published Rust's floor is what it was before the floor could be told: its judgements, and its run; `..-sized-plain` is what follows the sizes,
+-- An entry with the published Rust's floor is what it was before the floor could be told: its judgements, and its run; `.._sized_plain` is what follows the sizes,
 -- which the C functions' definitions name. Assumes nothing.
 use Prim.Native.Nat.{ℕ}
 use mathlib.Core.Bool.{Bool, true, false, ◌&&◌}

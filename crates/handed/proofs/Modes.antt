@@ -1,4 +1,4 @@
--- Where ceilings travel, a C function hands back what it does where they don't, every byte: with one common ceiling, and with shrinking off. `..-tuned-is`
+-- Where ceilings travel, a C function hands back what it does where they don't, every byte: with one common ceiling, and with shrinking off. `.._tuned_is`
 -- carries it over to the tuned functions. Assumes nothing.
 use Prim.Native.Nat.{ℕ, ◌*◌, ◌≤◌, ◌<◌}
 use mathlib.Core.Bool.{Bool, true, false}

@@ -1,5 +1,5 @@
--- Where a C function answers 0: the iterations in its answer are the steps of its run (`..-called-iterations`); and where the reason there is 0,
--- 'threshold', the rule stops in what the run leaves (`..-called-threshold`). Assumes nothing.
+-- Where a C function answers 0: the iterations in its answer are the steps of its run (`.._called_iterations`); and where the reason there is 0,
+-- 'threshold', the rule stops in what the run leaves (`.._called_threshold`). Assumes nothing.
 use Prim.Native.Nat.{ℕ, ◌*◌, ◌%◌, ◌^◌, ◌≤◌, ◌<◌}
 use mathlib.Core.List.{List}
 use mathlib.Core.Path.{◌≡◌, refl, sym, ap, ◌∙◌}

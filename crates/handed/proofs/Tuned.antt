@@ -155,7 +155,7 @@ module _ (n : ℕ) (m l c a p : List ℕ) (nurule eps shrinking : ℕ) (budget :
   unfolding general_tuned_host
   general_tuned_away = wide_away n (general_inputs n l c a p) m t cr h an _
 
-  -- so each promise that is named `general_called-..`, but the trail, holds by the tuning
+  -- so each promise that is named `general_called_..`, but the trail, holds by the tuning
   pub general_tuned_called : (general_tuned_host n m l c a p nurule eps shrinking budget t cr h an).code ≡ 0 → (tuning_known t ≡ true) × (128 ≤ length an) × ((general_host_by (tuning_of t) n m l c a p nurule eps shrinking budget cr h an).code ≡ 0)
   unfolding general_tuned_host general_host_by
   general_tuned_called = wide_called n (general_inputs n l c a p) m t cr h an _
@@ -188,7 +188,7 @@ module _ (n : ℕ) (m l : List ℕ) (cpos cneg eps shrinking : ℕ) (budget : �
   unfolding c_tuned_host
   c_tuned_away = wide_away n (eqb (length l) n) m t cr h an _
 
-  -- so each promise that is named `c_called-..`, but the trail, holds by the tuning
+  -- so each promise that is named `c_called_..`, but the trail, holds by the tuning
   pub c_tuned_called : (c_tuned_host n m l cpos cneg eps shrinking budget t cr h an).code ≡ 0 → (tuning_known t ≡ true) × (128 ≤ length an) × ((c_host_by (tuning_of t) n m l cpos cneg eps shrinking budget cr h an).code ≡ 0)
   unfolding c_tuned_host c_host_by
   c_tuned_called = wide_called n (eqb (length l) n) m t cr h an _
@@ -221,7 +221,7 @@ module _ (n : ℕ) (m l : List ℕ) (nu eps shrinking : ℕ) (budget : ℕ) (t c
   unfolding nu_tuned_host
   nu_tuned_away = wide_away n (eqb (length l) n) m t cr h an _
 
-  -- so each promise that is named `nu_called-..`, but the trail, holds by the tuning
+  -- so each promise that is named `nu_called_..`, but the trail, holds by the tuning
   pub nu_tuned_called : (nu_tuned_host n m l nu eps shrinking budget t cr h an).code ≡ 0 → (tuning_known t ≡ true) × (128 ≤ length an) × ((nu_host_by (tuning_of t) n m l nu eps shrinking budget cr h an).code ≡ 0)
   unfolding nu_tuned_host nu_host_by
   nu_tuned_called = wide_called n (eqb (length l) n) m t cr h an _
@@ -254,7 +254,7 @@ module _ (n : ℕ) (m : List ℕ) (nu eps shrinking : ℕ) (budget : ℕ) (t cr 
   unfolding one_class_tuned_host
   one_class_tuned_away = wide_away n true m t cr h an _
 
-  -- so each promise that is named `one_class_called-..`, but the trail, holds by the tuning
+  -- so each promise that is named `one_class_called_..`, but the trail, holds by the tuning
   pub one_class_tuned_called : (one_class_tuned_host n m nu eps shrinking budget t cr h an).code ≡ 0 → (tuning_known t ≡ true) × (128 ≤ length an) × ((one_class_host_by (tuning_of t) n m nu eps shrinking budget cr h an).code ≡ 0)
   unfolding one_class_tuned_host one_class_host_by
   one_class_tuned_called = wide_called n true m t cr h an _

@@ -16,7 +16,7 @@ pub enum Kind {
     OneClass,
 }
 
-// The lent matrix and its side. Functions over a reader are proved by hand, so it doesn't leave this file.
+// The lent matrix and its side. It does not leave this file: what other crates call has its contract over the plain slice.
 #[derive(Clone, Copy)]
 struct Reader<'a> {
     matrix: &'a [u8],

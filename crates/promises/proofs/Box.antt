@@ -1,5 +1,5 @@
 -- The box, of an entry: with one common ceiling b every weight lies in 0..b after each pass of its run, and no step is NaN. Assumes nothing.
-use Prim.Native.Nat.{ℕ, zero, ◌*◌, ◌≤◌, ◌<◌}
+use Prim.Native.Nat.{ℕ, ◌*◌, ◌≤◌, ◌<◌}
 use mathlib.Core.Bool.{true, false}
 use mathlib.Core.List.{List}
 use mathlib.Core.Path.{◌≡◌, sym, ◌∙◌}

@@ -1,4 +1,4 @@
--- The iterations that an entry answers are the steps of its run, at most the budget: of each entry, `..-iterations`. Assumes nothing.
+-- The iterations that an entry answers are the steps of its run, at most the budget: of each entry, `.._iterations`. Assumes nothing.
 use Prim.Native.Nat.{ℕ}
 use mathlib.Core.Bool.{Bool, true, false}
 use mathlib.Core.List.{List}

@@ -12,7 +12,7 @@ use lib.Ieee.{Float, nan}
 use lib.ListN.{length, get_or}
 use Rattle.alpha.specs.Weight.{one, minus_one}
 use Rattle.answer.specs.Lent.{Lent, Whole, untouched}
-use Rattle.answer.specs.Solved.{level_at, home_of, crate_of, settled_by, settled_of, closed_with, solved, stuck}
+use Rattle.answer.specs.Solved.{level_at, home_of, crate_of, settled_by, closed_with, solved, stuck}
 use Rattle.answer.specs.declared.Finish.{Finish}
 use Rattle.answer.specs.declared.Finish.TheVariants.{Plain, Signed, Scaled}
 use Rattle.answer.specs.declared.Outcome.TheVariants.{Refused}

@@ -3,8 +3,8 @@
 -- Main theorems, of C; of nu and one-class the same:
 --   still_c_accepts: what an acceptance says, of the call and of the rule's entry
 --   still_c_home: each coefficient is made of the sample's start weight, or of what the last step of the rule's run that chose it left
---   still-c-box, still-c-no-nan, still-c-home-box: with one common ceiling, the weights of that run and the one behind each coefficient
---   still-c-iterations, still-c-threshold: what the answer's iterations and its reason say of that run
+--   still_c_box, still_c_no_nan, still_c_home_box: with one common ceiling, the weights of that run and the one behind each coefficient
+--   still_c_iterations, still_c_threshold: what the answer's iterations and its reason say of that run
 --   still_c_number: which number a refusal has, and when it is 13
 --   still_c_leaves: what the lent lists hold in every outcome
 use Prim.Native.Nat.{ℕ, ◌*◌, ◌<◌}

@@ -1,4 +1,4 @@
--- Where an entry's answer has the reason 'threshold', the rule stops in what its run leaves: of each entry, `..-threshold`. Assumes nothing.
+-- Where an entry's answer has the reason 'threshold', the rule stops in what its run leaves: of each entry, `.._threshold`. Assumes nothing.
 use Prim.Native.Nat.{ℕ, ◌*◌, ◌<◌}
 use mathlib.Core.Bool.{Bool, true, false, cond, true≢false}
 use mathlib.Core.List.{List}
@@ -31,7 +31,6 @@ use Rattle.retired.proofs.Laws.{retired_fine}
 use Rattle.solver.specs.Run.{problem_of, Full}
 use Rattle.solver.specs.declared.Given.{Given}
 use Rattle.solver.specs.declared.Status.{Status}
-use Rattle.solver.specs.declared.Status.TheVariants as Status
 use Rattle.standing.specs.Run.{trained_over}
 use Rattle.standing.proofs.Rule.{runs_went}
 use Rattle.standing.proofs.Sample.{runs_keep}

@@ -1,5 +1,5 @@
--- A finger on one weight: each step leaves what the pair finder says (`..-found`); a longer run begins with the shorter one (`run_begins`,
--- `steps_begin`); and with shrinking off home has the weights after as many passes as the budget has (`..-trail`). Assumes nothing.
+-- A finger on one weight: each step leaves what the pair finder says (`.._found`); a longer run begins with the shorter one (`run_begins`,
+-- `steps_begin`); and with shrinking off home has the weights after as many passes as the budget has (`.._trail`). Assumes nothing.
 use Prim.Native.Nat.{ℕ, suc, ◌+◌, ◌*◌, ◌≤◌, ◌<◌}
 use mathlib.Core.Bool.{Bool, true, false, cond}
 use mathlib.Core.List.{List, ◌++◌}

@@ -1,7 +1,7 @@
 -- The pair and the stop over those that stand are the written rule's (trace/specs/Rule.antt), asked of those that stand:
---   over-words        the pair that is chosen is the rule's, and the rule's pair is chosen
---   over-none-words   none is chosen exactly where the rule stops
---   runs-went         after t passes: t steps, or fewer and the rule stops in what they leave
+--   over_words        the pair that is chosen is the rule's, and the rule's pair is chosen
+--   over_none_words   none is chosen exactly where the rule stops
+--   runs_went         after t passes: t steps, or fewer and the rule stops in what they leave
 -- Assumes nothing.
 use Prim.Native.Nat.{ℕ, zero, suc, ◌+◌, ◌<◌}
 use mathlib.Core.Bool.{Bool, true, false, cond}

@@ -1,9 +1,9 @@
 -- With shrinking off an entry without an order table answers what the rule's entry answers, refusals from 3 on too. Assumes nothing.
 --
 -- Main theorems:
---   c-same, nu-same, one-class-same: where what is lent to each suffices, the outcome is the same, and where it is accepted so is every coefficient; where the
+--   c_same, nu_same, one_class_same: where what is lent to each suffices, the outcome is the same, and where it is accepted so is every coefficient; where the
 --   lists lent for the result are the same, so they are after
---   c-sized-same, nu-sized-same, one-class-sized-same: the same of what follows refusals 1 and 2
+--   c_sized_same, nu_sized_same, one_class_sized_same: the same of what follows refusals 1 and 2
 use Prim.Native.Nat.{ℕ, ◌*◌, ◌≤◌}
 use mathlib.Core.Bool.{Bool, true, false}
 use mathlib.Core.List.{List}

@@ -1,7 +1,7 @@
 -- With shrinking off and all positions active, a pass is its pair's update and nothing else. Assumes nothing.
 --
 -- Main theorems:
---   rebuilt-off, refreshed-off: nothing is rebuilt; `closed_off`: nor at the end
+--   rebuilt_off, refreshed_off: nothing is rebuilt; `closed_off`: nor at the end
 --   step_off: a pass that steps leaves the update of the state in which it began
 use Prim.Native.Nat.{ℕ, ◌-◌}
 use mathlib.Core.Bool.{Bool, true, false, ◌&&◌, cond, true≢false}

@@ -1,7 +1,7 @@
 -- What a pass does, by the pair with which it steps. Assumes nothing.
 --
 -- Main theorems:
---   look-status, look-iterations: no look ends a run or counts a step
+--   look_status, look_iterations: no look ends a run or counts a step
 --   pair_look: the pair with which a pass steps is the choice in the state of its last look
 --   pass_steps: a pass with a pair is one update from that state, and one iteration
 --   pass_ends: a pass with no pair goes no further than its walk, or finds none at either look and ends the run

@@ -1,11 +1,11 @@
 -- Each pair of a run is the one that the written rule names (specs/Rule.antt), and a run that ends by itself found none, twice:
---   chosen-words    the pair that is chosen is the rule's, and the rule's pair is chosen
---   none-words      none is chosen exactly where the rule stops
---   pair-by-rule    the pair with which a pass steps is the rule's, in the state of its last look
---   stop-by-rule    a pass that ends the run met no pair at both looks
---   trained-stops   a run that ended by itself ended with such a pass; ended-done: and one that did has ended
---   trained-none    and in what it leaves there is no pair
---   trained-fewer   it took fewer steps than the budget has; trained-done: so does no other run that isn't refused
+--   chosen_words    the pair that is chosen is the rule's, and the rule's pair is chosen
+--   none_words      none is chosen exactly where the rule stops
+--   pair_by_rule    the pair with which a pass steps is the rule's, in the state of its last look
+--   stop_by_rule    a pass that ends the run met no pair at both looks
+--   trained_stops   a run that ended by itself ended with such a pass; ended_done: and one that did has ended
+--   trained_none    and in what it leaves there is no pair
+--   trained_fewer   it took fewer steps than the budget has; trained_done: so does no other run that isn't refused
 -- Assumes nothing.
 use Prim.Native.Nat.{ℕ, zero, suc, ◌+◌, ◌-◌, ◌<◌}
 use mathlib.Core.Bool.{Bool, true, false, not, ◌&&◌, cond, true≢false}

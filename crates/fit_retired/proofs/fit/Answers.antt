@@ -8,7 +8,6 @@ use Rattle.retired.specs.Entry.{kept}
 use Rattle.retired.proofs.Coded.{fitted_by}
 use Rattle.retired.proofs.Laws.{given_ready}
 use Rattle.state.specs.Lists.{state}
-use borrow.Author.Rules.{rules}
 use Rattle.fit_retired.proofs.fit.Goals as goal
 
 pub solve-requires : goal.solve-requires

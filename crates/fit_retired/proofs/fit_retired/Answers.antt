@@ -1,4 +1,3 @@
-use borrow.Author.Rules.{rules}
 use Rattle.fit_retired.proofs.fit_retired.Goals as goal
 
 pub returns : goal.returns

@@ -5,7 +5,6 @@ use Rattle.judge.proofs.Lengths.{inputs_of, room_of}
 use Rattle.classification.specs.Entries.{entered}
 use Rattle.retired.specs.Entry.{retired_tuned}
 use Rattle.retired.proofs.Laws.{five_long}
-use borrow.Author.Rules.{rules}
 use Rattle.fit_retired.proofs.fit_retired_tuned.Goals as goal
 
 pub sized-requires : goal.sized-requires

@@ -1,15 +1,10 @@
-use Prim.Native.Nat.{◌≤◌, ◌<◌, ◌-◌}
-use mathlib.Core.Path.{◌≡◌, refl}
-use native.Mathlib.Numerals.{add-one}
-use native.Mathlib.Omega.{arith}
-use lib.Ieee.{nan, div, of_bits}
-use lib.ListN.{length, length-set}
+use Prim.Native.Nat.{◌≤◌}
+use mathlib.Core.Path.{◌≡◌}
+use lib.Ieee.{nan}
+use lib.ListN.{length}
 use Rattle.fits.specs.Load.{loaded_floats}
 use Rattle.retired.specs.Entry.{kept}
 use Rattle.retired.specs.Silenced.{silenced}
-use Rattle.retired.proofs.Coded.{silenced_place}
-use Rattle.retired.proofs.Independent.{kept_place}
-use borrow.Author.Rules.{rules}
 use Rattle.fit_retired.proofs.load_floats.Given as goal
 
 abbrev pub invariant-loop-k : goal.invariant-loop-k

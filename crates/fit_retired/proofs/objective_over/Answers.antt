@@ -1,9 +1,7 @@
-use Prim.Native.Nat.{◌≤◌, ◌-◌}
 use mathlib.Core.Path.{◌≡◌, refl}
 use native.Mathlib.Numerals.{add-one}
 use native.Mathlib.Omega.{arith}
 use Rattle.standing.specs.End.{sum_over, objective_over}
-use Rattle.retired.specs.Entry.{stands_in}
 use borrow.Author.Rules.{rules}
 use Rattle.fit_retired.proofs.objective_over.Goals as goal
 

@@ -2,7 +2,6 @@ use mathlib.Core.Path.{sym, ◌∙◌}
 use Rattle.classification.specs.Entries.{decided}
 use Rattle.retired.specs.Entry.{retired_tuned_sized}
 use Rattle.retired.proofs.Laws.{usable_retired}
-use borrow.Author.Rules.{rules}
 use Rattle.fit_retired.proofs.sized.Goals as goal
 
 pub fit-requires : goal.fit-requires

@@ -5,7 +5,6 @@ use Rattle.solver.specs.Run.{Full}
 use Rattle.state.specs.Lists.{state}
 use Rattle.travel.proofs.Within.{trained_within}
 use Rattle.retired.proofs.Laws.{silent_by}
-use borrow.Author.Rules.{rules}
 use Rattle.fit_retired.proofs.solve.Goals as goal
 
 pub settle-out-requires : goal.settle-out-requires

@@ -1,4 +1,3 @@
-use borrow.Author.Rules.{rules}
 use Rattle.fit_retired.proofs.with_obj.Goals as goal
 
 pub returns-in-Accepted : goal.returns-in-Accepted

@@ -1,4 +1,4 @@
-use Rattle.std.proofs.Common.{arith, length-take, rules}
+use Rattle.std.proofs.Common.{arith, length-take}
 use Rattle.replay.proofs.one.Goals as goal
 
 pub returns-then-e-eq0 : goal.returns-then-e-eq0

@@ -1,4 +1,4 @@
-use Rattle.std.proofs.Common.{arith, length-take, rules}
+use Rattle.std.proofs.Common.{arith, length-take}
 use Rattle.replay.proofs.play_small.Goals as goal
 
 pub returns-then-e-gt262144 : goal.returns-then-e-gt262144

@@ -1,6 +1,5 @@
 use mathlib.Core.Path.{◌∙◌}
 use Rattle.course.proofs.Laws.{ready_long}
-use borrow.Author.Rules.{rules}
 use Rattle.reply.proofs.fit.Goals as goal
 
 pub train-w-requires : goal.train-w-requires

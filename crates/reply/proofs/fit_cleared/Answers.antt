@@ -3,7 +3,6 @@ use native.Mathlib.Omega.{arith}
 use lib.ListN.{length-take}
 use lib.Seq.{length-take-le}
 use Rattle.reply.proofs.Laws.{ready_taken, cleared_by}
-use borrow.Author.Rules.{rules}
 use Rattle.reply.proofs.fit_cleared.Goals as goal
 
 pub slice_bounds-fit-end-2 : goal.slice_bounds-fit-end-2

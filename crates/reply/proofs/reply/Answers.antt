@@ -1,6 +1,5 @@
 use Rattle.orderless.specs.Sheet.{ceilings_of}
 use Rattle.reply.proofs.Laws.{reply_by}
-use borrow.Author.Rules.{rules}
 use Rattle.reply.proofs.reply.Goals as goal
 
 pub returns : goal.returns

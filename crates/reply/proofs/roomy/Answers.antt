@@ -1,7 +1,6 @@
 use mathlib.Core.Path.{refl}
 use native.Mathlib.Omega.{arith}
 use Rattle.judge.proofs.Lengths.{square}
-use borrow.Author.Rules.{rules}
 use Rattle.reply.proofs.roomy.Goals as goal
 
 pub overflow_mul-result : goal.overflow_mul-result

@@ -3,7 +3,6 @@ use Rattle.hosted.specs.Hosted.{room}
 use Rattle.hosted.proofs.Serves.{room_long}
 use Rattle.still.proofs.Same.{nu_sized_same}
 use Rattle.served_still.proofs.Laws.{room_enough, delivered_same}
-use borrow.Author.Rules.{rules}
 use Rattle.served_still.proofs.nu.Goals as goal
 
 pub returns : goal.returns

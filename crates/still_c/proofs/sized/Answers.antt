@@ -2,7 +2,6 @@ use mathlib.Core.Path.{sym, ◌∙◌}
 use Rattle.judge.proofs.Accepted.{floor_fine}
 use Rattle.judge.proofs.First.{and_then_fine}
 use Rattle.still.specs.Entries.{still_decided, still_c_tuned_sized}
-use borrow.Author.Rules.{rules}
 use Rattle.still_c.proofs.sized.Goals as goal
 
 pub started-requires : goal.started-requires

@@ -11,7 +11,6 @@ use Rattle.judge.proofs.Accepted.{c_fine}
 use Rattle.orderless.specs.Sheet.{ceilings_of}
 use Rattle.reply.proofs.Laws.{whole_still}
 use Rattle.still.proofs.Fits.{c_lent}
-use borrow.Author.Rules.{rules}
 use Rattle.still_c.proofs.started.Goals as goal
 
 pub fit_cleared-requires : goal.fit_cleared-requires

@@ -11,7 +11,6 @@ use Rattle.judge.proofs.Accepted.{nu_fine}
 use Rattle.orderless.specs.Sheet.{ceilings_of}
 use Rattle.reply.proofs.Laws.{whole_still}
 use Rattle.still.proofs.Fits.{nu_lent}
-use borrow.Author.Rules.{rules}
 use Rattle.still_nu.proofs.started.Goals as goal
 
 pub fit_cleared-requires : goal.fit_cleared-requires

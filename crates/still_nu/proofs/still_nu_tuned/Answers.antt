@@ -4,7 +4,6 @@ use lib.ListN.{length}
 use Rattle.judge.proofs.Lengths.{long_enough}
 use Rattle.still.specs.Entries.{still_entered, still_nu_tuned}
 use Rattle.still.proofs.Sizes.{inputs_still, room_still}
-use borrow.Author.Rules.{rules}
 use Rattle.still_nu.proofs.still_nu_tuned.Goals as goal
 
 pub sized-requires : goal.sized-requires

@@ -10,7 +10,6 @@ use Rattle.fits.specs.Starts.{nothing, evenly, all_positive, one_class_to}
 use Rattle.orderless.specs.Sheet.{ceilings_of}
 use Rattle.reply.proofs.Laws.{whole_still}
 use Rattle.still.proofs.Fits.{one_class_lent}
-use borrow.Author.Rules.{rules}
 use Rattle.still_one_class.proofs.started.Goals as goal
 
 pub fit_cleared-requires : goal.fit_cleared-requires

@@ -2,7 +2,6 @@ use mathlib.Core.Path.{sym, ◌∙◌}
 use borrow.Author.Tests.{eq-eqb, ne_eqb}
 use Rattle.still.specs.Entries.{still_entered, still_one_class_tuned}
 use Rattle.still.proofs.Sizes.{room_still}
-use borrow.Author.Rules.{rules}
 use Rattle.still_one_class.proofs.still_one_class_tuned.Goals as goal
 
 pub sized-requires : goal.sized-requires

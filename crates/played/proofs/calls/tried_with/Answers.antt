@@ -1,6 +1,5 @@
 use native.Mathlib.Omega.{arith}
 use lib.ListN.{length-take}
-use borrow.Author.Rules.{rules}
 use Rattle.played.proofs.calls.tried_with.Goals as goal
 
 pub returns : goal.returns

@@ -1,5 +1,4 @@
-use Prim.Native.Nat.{◌≤◌, ◌-◌}
-use borrow.Author.Rules.{rules}
+use Prim.Native.Nat.{◌≤◌}
 use Rattle.played.proofs.compared.fields_noted.Given as goal
 
 abbrev pub invariant-loop-i : goal.invariant-loop-i

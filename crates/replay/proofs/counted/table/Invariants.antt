@@ -1,4 +1,4 @@
-use Rattle.std.proofs.Common.{◌-◌, ◌≤◌, rules}
+use Rattle.std.proofs.Common.{◌≤◌}
 use Rattle.replay.proofs.counted.table.Given as goal
 
 abbrev pub invariant-loop-i : goal.invariant-loop-i
