@@ -1,4 +1,3 @@
-use borrow.Author.Rules.{rules}
 use Rattle.served.proofs.c.Goals as goal
 
 pub returns-then-shrinking : goal.returns-then-shrinking

@@ -1,5 +1,4 @@
 use Rattle.hosted.proofs.Serves.{decoded_fresh}
-use borrow.Author.Rules.{rules}
 use Rattle.served.proofs.general.Goals as goal
 
 pub returns : goal.returns

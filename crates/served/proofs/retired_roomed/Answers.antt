@@ -1,7 +1,6 @@
 use native.Mathlib.Omega.{arith}
 use Rattle.hosted.specs.Hosted.{delivered}
 use Rattle.hosted.proofs.Serves.{room_given}
-use borrow.Author.Rules.{rules}
 use Rattle.served.proofs.retired_roomed.Goals as goal
 
 pub deliver-requires : goal.deliver-requires
