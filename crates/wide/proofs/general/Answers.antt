@@ -7,7 +7,6 @@ use borrow.Author.Tests.{eq-eqb, ne_eqb}
 use Rattle.hosted.specs.Hosted.{hosted_wide}
 use Rattle.hosted.proofs.Serves.{serves, wide_right, widened_by, lists_long}
 use Rattle.wide.specs.Wide.{general_tuned_host}
-use borrow.Author.Rules.{rules}
 use Rattle.wide.proofs.general.Goals as goal
 
 pub general-k-requires : goal.general-k-requires

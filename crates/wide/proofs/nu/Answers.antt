@@ -7,7 +7,6 @@ use borrow.Author.Tests.{eq-eqb, ne_eqb}
 use Rattle.hosted.specs.Hosted.{hosted_wide}
 use Rattle.hosted.proofs.Serves.{serves, wide_right, widened_by}
 use Rattle.wide.specs.Wide.{nu_tuned_host}
-use borrow.Author.Rules.{rules}
 use Rattle.wide.proofs.nu.Goals as goal
 
 pub nu-k-requires : goal.nu-k-requires

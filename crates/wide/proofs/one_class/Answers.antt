@@ -6,7 +6,6 @@ use borrow.Author.Tests.{eq-eqb, ne_eqb}
 use Rattle.hosted.specs.Hosted.{hosted_wide}
 use Rattle.hosted.proofs.Serves.{serves, wide_right, widened_by}
 use Rattle.wide.specs.Wide.{one_class_tuned_host}
-use borrow.Author.Rules.{rules}
 use Rattle.wide.proofs.one_class.Goals as goal
 
 pub one_class-k-requires : goal.one_class-k-requires
