@@ -4,7 +4,7 @@ use Prim.Native.Nat.{ℕ}
 use mathlib.Core.Bool.{false}
 use mathlib.Core.List.{List}
 use mathlib.Core.Path.{◌≡◌, refl, sym, ap, ◌∙◌}
-use lib.Ieee.{Float, binary64, to_bits}
+use lib.Ieee.{binary64, to_bits}
 use Rattle.alpha.specs.Weight.{floor}
 use Rattle.altuliscia.specs.Functions.{general_host, c_host, nu_host, one_class_host}
 use Rattle.answer.specs.Lent.{Whole}

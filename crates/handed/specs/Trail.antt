@@ -1,5 +1,5 @@
 -- What a C function's bytes tell of its run with shrinking off, and what the pair finder's are.
-use Rattle.std.specs.Prelude.{ℕ, ◌+◌, ◌*◌, ◌<◌, Bool, List, ◌++◌, ◌≡◌, Float, get_or}
+use Rattle.std.specs.Prelude.{ℕ, ◌+◌, ◌*◌, ◌<◌, List, ◌++◌, ◌≡◌, Float, get_or}
 use Rattle.std.specs.Float.{nan, binary64}
 use Rattle.std.specs.Float.Ieee.{to_bits}
 use Rattle.alpha.specs.Weight.{weight}
