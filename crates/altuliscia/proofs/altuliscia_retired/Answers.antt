@@ -1,7 +1,9 @@
-use mathlib.Core.Path.{sym, ◌∙◌}
+use mathlib.Core.Bool.{◌&&◌}
+use mathlib.Core.Path.{◌≡◌, sym, ◌∙◌}
 use borrow.Author.Tests.{eq-eqb, ne_eqb}
+use lib.Dec.{eqb}
 use lib.ListN.{length}
-use Rattle.hosted.specs.Hosted.{hosted_by}
+use Rattle.hosted.specs.Hosted.{general_inputs, floor_known, host_sizes, hosted_by}
 use Rattle.hosted.proofs.Serves.{serves, inputs_right, lists_long}
 use Rattle.judge.proofs.Lengths.{long_enough}
 use Rattle.rounding.proofs.Order.{both}
@@ -24,8 +26,14 @@ retired-requires c =
 
 pub returns-then-s-eq0 : goal.returns-then-s-eq0
 unfolding retired_host hosted_by
-returns-then-s-eq0 c = rw (← c.are_floats.ensures, ← c.are_floats-2.ensures, ← c.are_floats-3.ensures, ← c.is_floor.ensures, ← c.sized-s.ensures, eq-eqb _ _ c.if-s-eq0.true, ← c.tuning_of-tune.ensures, ← c.float_of-eps64.ensures) c.retired.ensures
+returns-then-s-eq0 c =
+    let s = c.args in
+    let e : host_sizes s.n (general_inputs s.n s.l.now s.c.now s.a.now s.p.now && eqb (length s.r.now) s.n && floor_known s.t.now) (length s.m.now) (length s.cr.now) (length s.h.now) (length s.answer.now) ≡ c.sized-s.result = cc in
+    rw (e, eq-eqb _ _ c.if-s-eq0.true, ← c.tuning_of-tune.ensures, ← c.float_of-eps64.ensures) c.retired.ensures
 
 pub returns : goal.returns
 unfolding retired_host hosted_by
-returns c = rw (← c.are_floats.ensures, ← c.are_floats-2.ensures, ← c.are_floats-3.ensures, ← c.is_floor.ensures, ← c.sized-s.ensures, ne_eqb _ _ c.if-s-eq0.false, c.turn_away.ensures)
+returns c =
+    let s = c.args in
+    let e : host_sizes s.n (general_inputs s.n s.l.now s.c.now s.a.now s.p.now && eqb (length s.r.now) s.n && floor_known s.t.now) (length s.m.now) (length s.cr.now) (length s.h.now) (length s.answer.now) ≡ c.sized-s.result = cc in
+    rw (e, ne_eqb _ _ c.if-s-eq0.false, c.turn_away.ensures)
