@@ -5,6 +5,7 @@ pub mod Entries
 pub mod Starts
 pub mod Boxes
 pub mod Modes
+pub mod ModesWhole
 pub mod Numbers
 pub mod Alike
 pub mod Retired

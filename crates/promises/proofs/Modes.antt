@@ -1,29 +1,25 @@
 -- Where ceilings travel every answer is what it is where they don't, of each entry, refusals and lent lists too: with one common ceiling, and with
 -- shrinking off. Assumes nothing.
 use Prim.Native.Nat.{ℕ, ◌*◌, ◌≤◌, ◌<◌}
-use mathlib.Core.Bool.{Bool, true, false, ◌&&◌, cond}
+use mathlib.Core.Bool.{Bool, true, false}
 use mathlib.Core.List.{List}
 use mathlib.Core.Logic.{◌⊎◌, inl, inr}
 use mathlib.Core.Path.{◌≡◌, refl, ap, ◌∙◌}
 use native.Mathlib.Omega.{arith}
-use borrow.Author.Tests.{eqb-true}
 use lib.Dec.{eqb}
 use lib.Ieee.{Float, nan}
 use lib.ListN.{length, get_or}
 use Rattle.alpha.specs.Weight.{one, minus_one}
-use Rattle.answer.specs.Lent.{Lent, Whole, untouched}
+use Rattle.answer.specs.Lent.{Lent, Whole}
 use Rattle.answer.specs.Solved.{level_at, home_of, crate_of, settled_by, closed_with, solved, stuck}
 use Rattle.answer.specs.declared.Finish.{Finish}
 use Rattle.answer.specs.declared.Finish.TheVariants.{Plain, Signed, Scaled}
-use Rattle.answer.specs.declared.Outcome.TheVariants.{Refused}
-use Rattle.classification.specs.Entries.{given_by, scratch_of, sizes_of, entered, decided, fitted, general_tuned, general_tuned_sized, fit_c_tuned, fit_c_tuned_sized, fit_nu_tuned, fit_nu_tuned_sized, fit_one_class_tuned, fit_one_class_tuned_sized}
+use Rattle.classification.specs.Entries.{given_by, scratch_of, decided, fitted, general_tuned_sized, fit_c_tuned_sized, fit_nu_tuned_sized, fit_one_class_tuned_sized}
 use Rattle.fits.specs.Load.{loaded}
 use Rattle.fits.specs.Starts.{nothing, evenly, all_positive, cost_of, costs_to, half, shared_to, one_class_to}
 use Rattle.fits.proofs.Loaded.{ceiling_loaded, length_floats}
 use Rattle.fits.proofs.Starts.{evenly_at, cost_at}
 use Rattle.judge.specs.Judge.{general_judged, c_judged, nu_judged, one_class_judged, floor_judged}
-use Rattle.judge.specs.Sizes.{Room}
-use Rattle.judge.proofs.Lengths.{room_of}
 use Rattle.judge.specs.declared.Judged.{Judged}
 use Rattle.kernel.specs.declared.Kind.TheVariants.{TwoClass, OneClass}
 use Rattle.modes.specs.Modes.{repaired}
@@ -65,22 +61,10 @@ module _ (g : Given) (how : Finish) (m l : List ℕ) (c a p : List Float) (budge
     fitted_off : g.shrinking ≡ false → fitted (in_mode Travelling g) how m l c a p budget d ≡ fitted (in_mode Crate g) how m l c a p budget d
     fitted_off off = fitted_by (trained_off g m c off budget (loaded g.n l c a p (scratch_of d)) placed)
 
--- ---- an entry: the refusals are the same, so what is left is the fit
-
-entered_by : (number : ℕ) (w v : Whole) (d : Lent) → (number ≡ 0 → w ≡ v) → entered number w d ≡ entered number v d
-unfolding entered
-entered_by number w v d h = go (eqb number 0) refl
-  where
-    go : (b : Bool) → eqb number 0 ≡ b → cond b w (untouched (Refused number 0) d) ≡ cond b v (untouched (Refused number 0) d)
-    go true e = h (eqb-true number 0 e)
-    go false e = refl
+-- ---- an entry: the refusals are the same, so what is left is the fit; ModesWhole.antt has the entries with the sizes that are judged first
 
 decided_by : (j : Judged) (w v : Whole) (d : Lent) → w ≡ v → decided j w d ≡ decided j v d
 decided_by j w v d h = ap (λ (z : Whole). decided j z d) h
-
-room_in : (n : ℕ) (inputs : Bool) (m : List ℕ) (d : Lent) → sizes_of n inputs m d ≡ 0
-    → Room n (length m) (length d.crate) (length d.home) (length d.floats) (length d.numbers) (length d.bytes)
-room_in n inputs m d h = room_of n inputs (length m) (length d.crate) (length d.home) (length d.floats) (length d.numbers) (length d.bytes) h
 
 -- ---- the entries, under a floor x; what follows the sizes by itself
 
@@ -121,24 +105,3 @@ module _ (x : Float) (n : ℕ) (m l : List ℕ) (eps : Float) (shrinking : Bool)
         let g = given_by (tuned x Crate) n OneClass eps shrinking false in
         decided_by (floor_judged x (one_class_judged n m nu eps budget)) _ _ d
         (fitted_common g Plain m (all_positive n) (evenly one n) (one_class_to nu n nothing n) nothing budget d room one (λ i q. evenly_at n i most q one))
-
-  -- whatever is lent: what is refused is refused alike
-  pub general_modes : (c a p : List Float) (nurule : Bool) (b : Float) → ((i : ℕ) → i < n → get_or c i nan ≡ b) ⊎ (shrinking ≡ false)
-      → general_tuned (tuned x Travelling) n m l c a p nurule eps shrinking budget d ≡ general_tuned (tuned x Crate) n m l c a p nurule eps shrinking budget d
-  unfolding general_tuned
-  general_modes c a p nurule b h =
-      entered_by (sizes_of n (eqb (length l) n && eqb (length c) n && eqb (length a) n && eqb (length p) n) m d) _ _ d
-      (λ z. let r = room_in n _ m d z in general_sized_modes r.floats r.most c a p nurule b h)
-
-  pub c_modes : (cpos cneg : Float) → (cpos ≡ cneg) ⊎ (shrinking ≡ false)
-      → fit_c_tuned (tuned x Travelling) n m l cpos cneg eps shrinking budget d ≡ fit_c_tuned (tuned x Crate) n m l cpos cneg eps shrinking budget d
-  unfolding fit_c_tuned
-  c_modes cpos cneg h = entered_by (sizes_of n (eqb (length l) n) m d) _ _ d (λ z. let r = room_in n _ m d z in c_sized_modes r.floats r.most cpos cneg h)
-
-  pub nu_modes : (nu : Float) → fit_nu_tuned (tuned x Travelling) n m l nu eps shrinking budget d ≡ fit_nu_tuned (tuned x Crate) n m l nu eps shrinking budget d
-  unfolding fit_nu_tuned
-  nu_modes nu = entered_by (sizes_of n (eqb (length l) n) m d) _ _ d (λ z. let r = room_in n _ m d z in nu_sized_modes r.floats r.most nu)
-
-  pub one_class_modes : (nu : Float) → fit_one_class_tuned (tuned x Travelling) n m nu eps shrinking budget d ≡ fit_one_class_tuned (tuned x Crate) n m nu eps shrinking budget d
-  unfolding fit_one_class_tuned
-  one_class_modes nu = entered_by (sizes_of n true m d) _ _ d (λ z. let r = room_in n _ m d z in one_class_sized_modes r.floats r.most nu)
