@@ -38,7 +38,7 @@
  * to ask for a sample's weight. They can differ only where samples were moved and the order isn't its own inverse.
  *
  * Threads and stack. A call keeps no state and shares nothing: calls from several threads may overlap in time. It asks for no
- * memory but its stack, of which it needs less than ALTULISCIA_STACK_BYTES (61639 were measured), and calls nothing from outside
+ * memory but its stack, of which it needs less than ALTULISCIA_STACK_BYTES (61703 were measured), and calls nothing from outside
  * but memset and memcpy. Every call ends, after at most `budget` passes.
  *
  * docs/BYTES.md has all of this at more length, with an answer in hex.

@@ -4,7 +4,7 @@
 ghost use Rattle.std.specs.Prelude.{◌≡◌};
 ghost use Rattle.alpha.specs.Weight.{floor, limit, weight, at_upper, at_lower, is_free, clip};
 
-#[derive(Clone, Copy)]
+#[derive(Clone, Copy, Debug, PartialEq)]
 pub struct Alpha {
     pub value: f64,
     pub upper: f64,

@@ -6,7 +6,7 @@ use Rattle.finder.specs.Found.{found_pair, with_pair}
 use Rattle.retired.specs.Entry.{retired_tuned_sized}
 use Rattle.hosted.specs.Hosted.{is_on, as_float, floor_known, tuning_of, floats_of, byte_sizes, general_inputs, room, Handed, delivered, hosted_by}
 use Rattle.votes.specs.Votes.{Panel}
-use Rattle.votes.specs.Entry.{languages_good, Voted, voted_on, election_told}
+use Rattle.votes.specs.Entry.{languages_good, Voted, voted_on, election_number, election_told}
 use Rattle.tuning.specs.Tuning.{plain_tuning}
 use Rattle.tuning.specs.declared.Tuning.{Tuning}
 
@@ -94,7 +94,7 @@ abbrev pub votes_handed : ℕ → List ℕ → List ℕ → VotesHanded
 votes_handed q v an = record { code = q; votes = v; answer = an }
 
 abbrev pub votes_told : Voted → List ℕ → VotesHanded
-votes_told w an = votes_handed w.out.number w.votes (election_told w.out an)
+votes_told w an = votes_handed (election_number w.out) w.votes (election_told w.out an)
 
 -- k languages, what is lent for their pairs; votes, answer. An answer that is too short is 2, behind 1
 unfoldable pub votes_host : ℕ → Panel → List ℕ → List ℕ → VotesHanded

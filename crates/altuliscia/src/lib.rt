@@ -7,7 +7,10 @@ ghost use Rattle.votes.specs.Votes.{panel};
 ghost use Rattle.wide.specs.Wide.{general_tuned_host, c_tuned_host, nu_tuned_host, one_class_tuned_host};
 ghost use Rattle.altuliscia.specs.Functions.{general_host, retired_host, c_host, nu_host, one_class_host, PairHanded, pair_handed, pair_host, VotesHanded, votes_handed, votes_host, version};
 
+use tuning::Settings;
+
 // Labels l, ceilings c, start alphas a and linear term p.
+#[tactic(auto, using(hosted::proofs::Serves::serves, hosted::proofs::Serves::inputs_right, hosted::proofs::Serves::lists_long), unfolding(crate::specs::Functions::general_host_by, hosted::specs::Hosted::hosted_by))]
 pub fn altuliscia_general(
     n: usize,
     m: &[u8],
@@ -30,32 +33,21 @@ pub fn altuliscia_general(
         & hosted::are_floats(n, c.len())
         & hosted::are_floats(n, a.len())
         & hosted::are_floats(n, p.len());
-    let s = hosted::sized(n, floats, m.len(), cr.len(), h.len(), answer.len());
-    if s == 0 {
-        let t = tuning::plain();
-        let eps64 = wire::float_of(eps);
-        return served::general(
-            n,
-            m,
-            l,
-            c,
-            a,
-            p,
-            nurule != 0,
-            eps64,
-            shrinking != 0,
-            budget,
-            t,
-            cr,
-            h,
-            answer,
-        );
+    if let Err(refusal) = hosted::sized(n, floats, m.len(), cr.len(), h.len(), answer.len()) {
+        return hosted::turn_away(answer, refusal);
     }
-    hosted::turn_away(answer, s);
-    s
+    let t = tuning::plain();
+    let eps64 = wire::float_of(eps);
+    let settings = Settings {
+        eps: eps64,
+        shrinking: shrinking != 0,
+        budget,
+    };
+    served::general(n, m, l, c, a, p, nurule != 0, settings, t, cr, h, answer)
 }
 
 // The general one, over the samples that aren't retired: a byte of r for each sample, and a tuning t of eight-byte words.
+#[tactic(auto, using(hosted::proofs::Serves::serves, hosted::proofs::Serves::inputs_right, hosted::proofs::Serves::lists_long, judge::proofs::Lengths::long_enough), unfolding(crate::specs::Functions::retired_host, hosted::specs::Hosted::hosted_by))]
 pub fn altuliscia_retired(
     n: usize,
     m: &[u8],
@@ -82,21 +74,23 @@ pub fn altuliscia_retired(
         & hosted::are_floats(n, p.len())
         & (r.len() == n)
         & hosted::is_floor(t);
-    let s = hosted::sized(n, lists, m.len(), cr.len(), h.len(), answer.len());
-    if s == 0 {
-        let tune = hosted::tuning_of(t);
-        let nu = nurule != 0;
-        let shrunk = shrinking != 0;
-        let eps64 = wire::float_of(eps);
-        return served::retired(
-            n, m, l, c, a, p, r, nu, eps64, shrunk, budget, tune, cr, h, answer,
-        );
+    if let Err(refusal) = hosted::sized(n, lists, m.len(), cr.len(), h.len(), answer.len()) {
+        return hosted::turn_away(answer, refusal);
     }
-    hosted::turn_away(answer, s);
-    s
+    let tune = hosted::tuning_of(t);
+    let nu = nurule != 0;
+    let shrunk = shrinking != 0;
+    let eps64 = wire::float_of(eps);
+    let settings = Settings {
+        eps: eps64,
+        shrinking: shrunk,
+        budget,
+    };
+    served::retired(n, m, l, c, a, p, r, nu, settings, tune, cr, h, answer)
 }
 
 // A ceiling for each label.
+#[tactic(auto, using(hosted::proofs::Serves::serves, hosted::proofs::Serves::inputs_right, judge::proofs::Lengths::long_enough), unfolding(crate::specs::Functions::c_host_by, hosted::specs::Hosted::hosted_by))]
 pub fn altuliscia_c(
     n: usize,
     m: &[u8],
@@ -113,32 +107,23 @@ pub fn altuliscia_c(
     ensures { ◌≡◌ {A = Handed} (handed result cr.new h.new answer.new)
         (c_host n m.now l.now cpos cneg eps shrinking budget cr.old h.old answer.old) }
 {
-    let s = hosted::sized(n, l.len() == n, m.len(), cr.len(), h.len(), answer.len());
-    if s == 0 {
-        let t = tuning::plain();
-        let cpos64 = wire::float_of(cpos);
-        let cneg64 = wire::float_of(cneg);
-        let eps64 = wire::float_of(eps);
-        return served::c(
-            n,
-            m,
-            l,
-            cpos64,
-            cneg64,
-            eps64,
-            shrinking != 0,
-            budget,
-            t,
-            cr,
-            h,
-            answer,
-        );
+    if let Err(refusal) = hosted::sized(n, l.len() == n, m.len(), cr.len(), h.len(), answer.len()) {
+        return hosted::turn_away(answer, refusal);
     }
-    hosted::turn_away(answer, s);
-    s
+    let t = tuning::plain();
+    let cpos64 = wire::float_of(cpos);
+    let cneg64 = wire::float_of(cneg);
+    let eps64 = wire::float_of(eps);
+    let settings = Settings {
+        eps: eps64,
+        shrinking: shrinking != 0,
+        budget,
+    };
+    served::c(n, m, l, cpos64, cneg64, settings, t, cr, h, answer)
 }
 
 // The nu rule.
+#[tactic(auto, using(hosted::proofs::Serves::serves, hosted::proofs::Serves::inputs_right, judge::proofs::Lengths::long_enough), unfolding(crate::specs::Functions::nu_host_by, hosted::specs::Hosted::hosted_by))]
 pub fn altuliscia_nu(
     n: usize,
     m: &[u8],
@@ -154,30 +139,22 @@ pub fn altuliscia_nu(
     ensures { ◌≡◌ {A = Handed} (handed result cr.new h.new answer.new)
         (nu_host n m.now l.now nu eps shrinking budget cr.old h.old answer.old) }
 {
-    let s = hosted::sized(n, l.len() == n, m.len(), cr.len(), h.len(), answer.len());
-    if s == 0 {
-        let t = tuning::plain();
-        let nu64 = wire::float_of(nu);
-        let eps64 = wire::float_of(eps);
-        return served::nu(
-            n,
-            m,
-            l,
-            nu64,
-            eps64,
-            shrinking != 0,
-            budget,
-            t,
-            cr,
-            h,
-            answer,
-        );
+    if let Err(refusal) = hosted::sized(n, l.len() == n, m.len(), cr.len(), h.len(), answer.len()) {
+        return hosted::turn_away(answer, refusal);
     }
-    hosted::turn_away(answer, s);
-    s
+    let t = tuning::plain();
+    let nu64 = wire::float_of(nu);
+    let eps64 = wire::float_of(eps);
+    let settings = Settings {
+        eps: eps64,
+        shrinking: shrinking != 0,
+        budget,
+    };
+    served::nu(n, m, l, nu64, settings, t, cr, h, answer)
 }
 
 // No labels.
+#[tactic(auto, using(hosted::proofs::Serves::serves, hosted::proofs::Serves::inputs_right), unfolding(crate::specs::Functions::one_class_host_by, hosted::specs::Hosted::hosted_by))]
 pub fn altuliscia_one_class(
     n: usize,
     m: &[u8],
@@ -192,15 +169,18 @@ pub fn altuliscia_one_class(
     ensures { ◌≡◌ {A = Handed} (handed result cr.new h.new answer.new)
         (one_class_host n m.now nu eps shrinking budget cr.old h.old answer.old) }
 {
-    let s = hosted::sized(n, true, m.len(), cr.len(), h.len(), answer.len());
-    if s == 0 {
-        let t = tuning::plain();
-        let nu64 = wire::float_of(nu);
-        let eps64 = wire::float_of(eps);
-        return served::one_class(n, m, nu64, eps64, shrinking != 0, budget, t, cr, h, answer);
+    if let Err(refusal) = hosted::sized(n, true, m.len(), cr.len(), h.len(), answer.len()) {
+        return hosted::turn_away(answer, refusal);
     }
-    hosted::turn_away(answer, s);
-    s
+    let t = tuning::plain();
+    let nu64 = wire::float_of(nu);
+    let eps64 = wire::float_of(eps);
+    let settings = Settings {
+        eps: eps64,
+        shrinking: shrinking != 0,
+        budget,
+    };
+    served::one_class(n, m, nu64, settings, t, cr, h, answer)
 }
 
 // The same four under a tuning t of eight-byte words, with an answer of 128 bytes.
@@ -288,6 +268,7 @@ pub fn altuliscia_one_class_tuned(
 }
 
 // One step's pair: weight and ceiling of i and of j, gradients, diagonals, the entry of row i at j.
+#[tactic(auto, unfolding(crate::specs::Functions::pair_host))]
 pub fn altuliscia_pair(
     ai: u64,
     bi: u64,
@@ -321,6 +302,7 @@ pub fn altuliscia_pair(
 }
 
 // Languages from pairs of trainings: coefficients c and kernel values u of all pairs, how many of each a pair has, rhos.
+#[tactic(auto, unfolding(crate::specs::Functions::votes_host))]
 pub fn altuliscia_votes(
     k: usize,
     c: &[u8],
@@ -335,11 +317,14 @@ pub fn altuliscia_votes(
         (votes_host k (panel c.now u.now held.now valued.now rhos.now) v.old answer.old) }
 {
     if answer.len() < 24 {
-        return votes::short_answer(k);
+        return votes::short_answer(k).number();
     }
     let e = votes::vote(k, c, u, held, valued, rhos, v);
     votes::tell(answer, e);
-    e.number
+    match e {
+        Ok(_) => 0,
+        Err(refusal) => refusal.number(),
+    }
 }
 
 // Which version this is.

@@ -4,6 +4,7 @@ use mathlib.Core.Bool.{true, false}
 use mathlib.Core.List.{List}
 use mathlib.Core.Path.{◌≡◌}
 use lib.Ieee.{Float}
+use Rattle.std.specs.Prelude.{Ok, Err}
 use Rattle.rho.specs.declared.Level.{Level}
 use Rattle.solver.specs.Run.{Full}
 use Rattle.solver.specs.declared.Given.{Given}
@@ -13,15 +14,15 @@ use Rattle.answer.specs.Lent.{Lent, Whole, whole, cleared}
 use Rattle.answer.specs.Solved.{stuck, Read, read, answer_of, crate_of, home_of, level_at, settled_by, settled_of, solved}
 use Rattle.answer.specs.declared.Answer.{Answer}
 use Rattle.answer.specs.declared.Finish.{Finish}
-use Rattle.answer.specs.declared.Outcome.TheVariants.{Accepted, Refused}
+use Rattle.judge.specs.declared.Refusal.TheVariants.{ShrunkAway}
 
 module _ (g : Given) (how : Finish) (l : List ℕ) (budget : ℕ) (w : Full) (c h : List Float) where
-  pub settled_stuck : stuck w.run.status ≡ true → ◌≡◌ {A = Read} (read (Refused 11 0) c h) (settled_of g how l budget w c h)
+  pub settled_stuck : stuck w.run.status ≡ true → ◌≡◌ {A = Read} (read (Err ShrunkAway) c h) (settled_of g how l budget w c h)
   unfolding settled_by
   settled_stuck e = rw e
 
   pub settled_fine : (v : Level) (c' h' : List Float) (a : Answer) → stuck w.run.status ≡ false → v ≡ level_at g w → c' ≡ crate_of g how l w v c
-      → h' ≡ home_of g how l w v h → a ≡ answer_of g how budget w v h' → ◌≡◌ {A = Read} (read (Accepted a) c' h') (settled_of g how l budget w c h)
+      → h' ≡ home_of g how l w v h → a ≡ answer_of g how budget w v h' → ◌≡◌ {A = Read} (read (Ok a) c' h') (settled_of g how l budget w c h)
   unfolding settled_by
   settled_fine v c' h' a e x y z q = rw (q, z, y, x, e)
 

@@ -1,17 +1,16 @@
 -- What a run answers (the rule, sections 'What a caller lends and gets' and 'Fits').
-use Rattle.std.specs.Prelude.{ℕ, zero, suc, ◌+◌, Bool, cond, List, [], ◌∷◌, eqb, Float, get_or, set}
+use Rattle.std.specs.Prelude.{ℕ, zero, suc, ◌+◌, Bool, cond, List, [], ◌∷◌, eqb, Float, get_or, set, Option, Some, None, Result, Ok, Err}
 use Rattle.std.specs.Float.{nan, binary64}
 use Rattle.std.specs.Float.Ieee.{of_bits, to_bits, neg, mul, div, lt}
 use Rattle.floats.specs.Helpers.{abs_of}
 use Rattle.rho.specs.declared.Level.{Level}
+use Rattle.answer.specs.declared.Answer.{Answer}
 use Rattle.answer.specs.declared.ExitReason.{ExitReason}
 use Rattle.answer.specs.declared.ExitReason.TheVariants.{ReachedThreshold, ReachedIterations}
 use Rattle.answer.specs.declared.Finish.{Finish}
 use Rattle.answer.specs.declared.Finish.TheVariants.{Plain, Signed, Scaled}
-use Rattle.answer.specs.declared.Outcome.{Outcome}
-use Rattle.answer.specs.declared.Outcome.TheVariants.{Accepted, Refused}
-use Rattle.answer.specs.declared.Ratio.{Ratio}
-use Rattle.answer.specs.declared.Ratio.TheVariants.{Absent, Present}
+use Rattle.judge.specs.Refusals.{number, index_of}
+use Rattle.judge.specs.declared.Refusal.{Refusal}
 
 -- ---- the coefficients
 
@@ -58,8 +57,8 @@ obj_of Plain v obj = obj
 obj_of Signed v obj = obj
 obj_of Scaled v obj = div binary64 obj (mul binary64 v.r v.r)
 
-unfoldable pub ratio_of : Bool → Level → Ratio
-ratio_of nu v = cond nu (Present v.r) Absent
+unfoldable pub ratio_of : Bool → Level → Option Float
+ratio_of nu v = cond nu (Some v.r) None
 
 -- iterations exactly when the count equals the budget
 unfoldable pub reason_of : ℕ → ℕ → ExitReason
@@ -71,16 +70,16 @@ unfoldable pub reason_number : ExitReason → ℕ
 reason_number ReachedThreshold = 0
 reason_number ReachedIterations = 1
 
-unfoldable pub ratio_there : Ratio → ℕ
-ratio_there Absent = 0
-ratio_there (Present r) = 1
+unfoldable pub ratio_there : Option Float → ℕ
+ratio_there None = 0
+ratio_there (Some r) = 1
 
-unfoldable pub ratio_bits : Ratio → ℕ
-ratio_bits Absent = 0
-ratio_bits (Present r) = to_bits binary64 r
+unfoldable pub ratio_bits : Option Float → ℕ
+ratio_bits None = 0
+ratio_bits (Some r) = to_bits binary64 r
 
 -- refusal number, index, rho, whether r is there, r, obj, iterations, reason, support count: absent and refused fields are 0
-unfoldable pub words_of : Outcome → List ℕ
-words_of (Accepted a) =
+unfoldable pub words_of : Result Answer Refusal → List ℕ
+words_of (Ok a) =
     0 ∷ 0 ∷ to_bits binary64 a.rho ∷ ratio_there a.r ∷ ratio_bits a.r ∷ to_bits binary64 a.obj ∷ a.iterations ∷ reason_number a.exit_reason ∷ a.support ∷ []
-words_of (Refused number index) = number ∷ index ∷ 0 ∷ 0 ∷ 0 ∷ 0 ∷ 0 ∷ 0 ∷ 0 ∷ []
+words_of (Err refusal) = number refusal ∷ index_of refusal ∷ 0 ∷ 0 ∷ 0 ∷ 0 ∷ 0 ∷ 0 ∷ 0 ∷ []

@@ -1,9 +1,10 @@
 -- The five lists that are lent to be written.
-use Rattle.std.specs.Prelude.{ℕ, ◌*◌, List, Float}
+use Rattle.std.specs.Prelude.{ℕ, ◌*◌, List, Float, Result}
 use Rattle.alpha.specs.Weight as Weight
 use Rattle.lists.specs.Filled.{filled_to}
 use Rattle.state.specs.Lists.{State}
-use Rattle.answer.specs.declared.Outcome.{Outcome}
+use Rattle.answer.specs.declared.Answer.{Answer}
+use Rattle.judge.specs.declared.Refusal.{Refusal}
 
 pub record Lent : Type 0 where
   pub crate : List Float
@@ -17,13 +18,13 @@ lent c h f u y = record { crate = c; home = h; floats = f; numbers = u; bytes = 
 
 -- an outcome, with what the lists hold then
 pub record Whole : Type 0 where
-  pub out : Outcome
+  pub out : Result Answer Refusal
   pub left : Lent
 
-abbrev pub whole : Outcome → List Float → List Float → List Float → List ℕ → List ℕ → Whole
+abbrev pub whole : Result Answer Refusal → List Float → List Float → List Float → List ℕ → List ℕ → Whole
 whole o c h f u y = record { out = o; left = lent c h f u y }
 
-abbrev pub untouched : Outcome → Lent → Whole
+abbrev pub untouched : Result Answer Refusal → Lent → Whole
 untouched o d = record { out = o; left = d }
 
 -- the used scratch is all +0

@@ -1,5 +1,5 @@
 -- A run over loaded lists, its answer, and the scratch cleared: what every entry ends in.
-use Rattle.std.specs.Prelude.{ℕ, Bool, true, false, List, Float}
+use Rattle.std.specs.Prelude.{ℕ, Bool, true, false, List, Float, Result, Ok, Err}
 use Rattle.modes.specs.Modes.{repaired}
 use Rattle.readings.specs.Order.{crate_reading, home_reading, weight_in}
 use Rattle.rho.specs.Rho.{level_by}
@@ -13,8 +13,8 @@ use Rattle.answer.specs.Answer.{finished_to, support_of, rho_of, obj_of, ratio_o
 use Rattle.answer.specs.Lent.{Lent, Whole, whole, cleared}
 use Rattle.answer.specs.declared.Answer.{Answer}
 use Rattle.answer.specs.declared.Finish.{Finish}
-use Rattle.answer.specs.declared.Outcome.{Outcome}
-use Rattle.answer.specs.declared.Outcome.TheVariants.{Accepted, Refused}
+use Rattle.judge.specs.declared.Refusal.{Refusal}
+use Rattle.judge.specs.declared.Refusal.TheVariants.{ShrunkAway}
 
 unfoldable pub stuck : Status → Bool
 stuck Status.Going = false
@@ -23,11 +23,11 @@ stuck Status.Refused = true
 
 -- the answer, and both result lists
 pub record Read : Type 0 where
-  pub out : Outcome
+  pub out : Result Answer Refusal
   pub crate : List Float
   pub home : List Float
 
-abbrev pub read : Outcome → List Float → List Float → Read
+abbrev pub read : Result Answer Refusal → List Float → List Float → Read
 read o c h = record { out = o; crate = c; home = h }
 
 -- the answer of a run that ended: v is rho and r, home its own reading
@@ -51,13 +51,13 @@ home_of g how l w v h = finished_to how l v.r (home_reading g.n w.state.numbers 
 unfoldable pub level_at : Given → Full → Level
 level_at g w = level_by g.nu (repaired g.mode) g.n w.state.floats w.state.labels w.run.active
 
--- refused with 11, both result lists stay
+-- refused: both result lists stay
 unfoldable pub settled_by : Bool → Given → Finish → List ℕ → ℕ → Full → List Float → List Float → Read
-settled_by true g how l budget w c h = read (Refused 11 0) c h
+settled_by true g how l budget w c h = read (Err ShrunkAway) c h
 settled_by false g how l budget w c h =
     let v = level_at g w in
     let home = home_of g how l w v h in
-    read (Accepted (answer_of g how budget w v home)) (crate_of g how l w v c) home
+    read (Ok (answer_of g how budget w v home)) (crate_of g how l w v c) home
 
 abbrev pub settled_of : Given → Finish → List ℕ → ℕ → Full → List Float → List Float → Read
 settled_of g how l budget w c h = settled_by (stuck w.run.status) g how l budget w c h

@@ -11,17 +11,11 @@ ghost use Rattle.answer.specs.Answer.{signed_by, coefficient_of, finished_to, co
 ghost use Rattle.answer.specs.Lent.{cleared};
 ghost use Rattle.answer.specs.Solved.{stuck, Read, read, answer_of, crate_of, home_of, level_at, settled_of};
 
+use judge::Refusal;
 use rho::Level;
 use solver::{Given, Run, Status};
 
-// r, with the nu rule.
-#[derive(Clone, Copy)]
-pub enum Ratio {
-    Absent,
-    Present(f64),
-}
-
-#[derive(Clone, Copy)]
+#[derive(Clone, Copy, Debug, PartialEq, Eq)]
 pub enum ExitReason {
     ReachedThreshold,
     ReachedIterations,
@@ -30,22 +24,16 @@ pub enum ExitReason {
 #[derive(Clone, Copy)]
 pub struct Answer {
     pub rho: f64,
-    pub r: Ratio,
+    // With the nu rule.
+    pub r: Option<f64>,
     pub obj: f64,
     pub iterations: usize,
     pub exit_reason: ExitReason,
     pub support: usize,
 }
 
-// A refusal has its number and the first offending index.
-#[derive(Clone, Copy)]
-pub enum Outcome {
-    Accepted(Answer),
-    Refused(u64, usize),
-}
-
 // How a fit gives its coefficients: as they are, signed by label, or signed and divided by r.
-#[derive(Clone, Copy)]
+#[derive(Clone, Copy, Debug, PartialEq, Eq)]
 pub enum Finish {
     Plain,
     Signed,
@@ -58,6 +46,7 @@ fn sign(label: u8, x: f64) -> f64
     if label == 1 { x } else { -x }
 }
 
+#[tactic(auto, unfolding(crate::specs::Answer::coefficient_of))]
 fn coefficient(how: Finish, label: u8, r: f64, x: f64) -> f64
     ensures { result ≡ coefficient_of how label r x }
 {
@@ -69,6 +58,7 @@ fn coefficient(how: Finish, label: u8, r: f64, x: f64) -> f64
 }
 
 // Each of the first n places of a reading by its sample's label.
+#[tactic(auto, unfolding(crate::specs::Answer::finished_to))]
 pub fn finish_reading(d: &mut [f64], l: &[u8], n: usize, how: Finish, r: f64)
     requires { (n ≤ length d.old) × (n ≤ length l.now) }
     ensures { d.new ≡ finished_to how l.now r d.old n }
@@ -92,6 +82,7 @@ fn count(x: f64, t: usize) -> usize
     }
 }
 
+#[tactic(auto, unfolding(crate::specs::Answer::support_of))]
 pub fn support(h: &[f64], n: usize) -> usize
     requires { (n ≤ 512) × (n ≤ length h.now) }
     ensures { result ≡ support_of h.now n }
@@ -103,36 +94,34 @@ pub fn support(h: &[f64], n: usize) -> usize
     t
 }
 
+#[tactic(auto, unfolding(crate::specs::Answer::rho_of))]
 pub fn rho_of(how: Finish, v: Level) -> f64
     ensures { result ≡ rho_of how v }
 {
     match how {
-        Finish::Plain => v.rho,
-        Finish::Signed => v.rho,
+        Finish::Plain | Finish::Signed => v.rho,
         Finish::Scaled => v.rho / v.r,
     }
 }
 
+#[tactic(auto, unfolding(crate::specs::Answer::obj_of))]
 pub fn obj_of(how: Finish, v: Level, obj: f64) -> f64
     ensures { result ≡ obj_of how v obj }
 {
     match how {
-        Finish::Plain => obj,
-        Finish::Signed => obj,
+        Finish::Plain | Finish::Signed => obj,
         Finish::Scaled => obj / (v.r * v.r),
     }
 }
 
-pub fn ratio_of(nu: bool, v: Level) -> Ratio
+#[tactic(auto, unfolding(crate::specs::Answer::ratio_of))]
+pub fn ratio_of(nu: bool, v: Level) -> Option<f64>
     ensures { result ≡ ratio_of nu v }
 {
-    if nu {
-        Ratio::Present(v.r)
-    } else {
-        Ratio::Absent
-    }
+    nu.then_some(v.r)
 }
 
+#[tactic(auto, unfolding(crate::specs::Answer::reason_of))]
 pub fn reason(iterations: usize, budget: usize) -> ExitReason
     ensures { result ≡ reason_of iterations budget }
 {
@@ -143,15 +132,11 @@ pub fn reason(iterations: usize, budget: usize) -> ExitReason
     }
 }
 
+#[tactic(auto, unfolding(crate::specs::Solved::stuck))]
 fn is_stuck(r: Run) -> bool
     ensures { result ≡ stuck r.status }
 {
-    let s = r.status;
-    match s {
-        Status::Going => false,
-        Status::Done => false,
-        Status::Refused => true,
-    }
+    matches!(r.status, Status::Refused)
 }
 
 // The two readings, each finished.
@@ -176,6 +161,7 @@ fn read_both(
 }
 
 // rho, and with the nu rule r, over the active positions.
+#[tactic(auto, unfolding(crate::specs::Solved::level_at))]
 fn level_at(f: &[f64], y: &[u8], g: Given, active: usize) -> Level
     requires { (active ≤ g.n) × (g.n ≤ 512) × (7 * g.n ≤ length f.now) × (g.n ≤ length y.now) }
     ensures { result ≡ level_by g.nu (repaired g.mode) g.n f.now y.now active }
@@ -196,14 +182,14 @@ pub fn settle(
     how: Finish,
     budget: usize,
     r: Run,
-) -> Outcome
+) -> Result<Answer, Refusal>
     requires { (g.n ≤ 512) × (r.active ≤ g.n) × (g.n ≤ length cr.old) × (g.n ≤ length h.old) × (7 * g.n ≤ length f.now) × (NamesSamples g.n u.now)
         × (g.n ≤ length y.now) × (g.n ≤ length l.now) }
     ensures { ◌≡◌ {A = Read} (read result cr.new h.new)
         (settled_of g how l.now budget (full r f.now u.now y.now) cr.old h.old) }
 {
     if is_stuck(r) {
-        return Outcome::Refused(11, 0);
+        return Err(Refusal::ShrunkAway);
     }
     let n = g.n;
     let active = r.active;
@@ -217,7 +203,7 @@ pub fn settle(
         exit_reason: reason(r.iterations, budget),
         support: support(h, n),
     };
-    Outcome::Accepted(answer)
+    Ok(answer)
 }
 
 // The used scratch is all +0.
@@ -225,7 +211,7 @@ pub fn clear(f: &mut [f64], u: &mut [u64], y: &mut [u8], n: usize)
     requires { (n ≤ 512) × (7 * n ≤ length f.old) × (2 * n ≤ length u.old) × (n ≤ length y.old) }
     ensures { ◌≡◌ {A = State} (state f.new u.new y.new) (cleared n (state f.old u.old y.old)) }
 {
-    lists::fill_floats(f, 0.0, 7 * n);
-    lists::fill_numbers(u, 0, 2 * n);
-    lists::fill_bytes(y, 0, n);
+    lists::fill(f, 0.0, 7 * n);
+    lists::fill(u, 0, 2 * n);
+    lists::fill(y, 0, n);
 }

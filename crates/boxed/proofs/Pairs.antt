@@ -8,12 +8,12 @@ use native.Mathlib.Omega.{arith}
 use lib.Dec.{T, eqb}
 use lib.Ieee.{Float, lt}
 use lib.ListN.{get_or}
+use Rattle.std.specs.Prelude.{Some}
 use Rattle.alpha.specs.Weight.{zero as nought, weight}
 use Rattle.choose_c.specs.Choice.{choice_c}
 use Rattle.choose_c.proofs.Rule as C
 use Rattle.choose_nu.specs.Choice.{choice_nu}
 use Rattle.choose_nu.proofs.Rule as Nu
-use Rattle.extreme.specs.declared.Choice.TheVariants.{Pair}
 use Rattle.modes.specs.declared.Mode.{Mode}
 use Rattle.partner.specs.Curvature.{gap_of}
 use Rattle.modes.specs.declared.Mode.{Mode}
@@ -35,12 +35,12 @@ ahead false true gi gj h = inr h
 ahead false false gi gj h = inr h
 
 module _ (p : Problem) (s : State) (floor eps : Float) (a i j : ℕ) where
-  pub chosen_c : choice_c p s floor eps a ≡ Pair i j → Chosen (beq (positive s i) (positive s j)) (gradient p s i) (gradient p s j)
+  pub chosen_c : choice_c p s floor eps a ≡ Some (i, j) → Chosen (beq (positive s i) (positive s j)) (gradient p s i) (gradient p s j)
   chosen_c e =
       let r = ((C.pair_rule p s a floor eps i j).0 e).1.second in
       ahead (positive s i) (positive s j) (gradient p s i) (gradient p s j) r.after.ahead
 
-  pub chosen_nu : choice_nu p s floor eps a ≡ Pair i j → Chosen (beq (positive s i) (positive s j)) (gradient p s i) (gradient p s j)
+  pub chosen_nu : choice_nu p s floor eps a ≡ Some (i, j) → Chosen (beq (positive s i) (positive s j)) (gradient p s i) (gradient p s j)
   chosen_nu e =
       let r = ((Nu.pair_rule p s a floor eps i j).0 e).1.second in
       ahead (positive s i) (positive s j) (gradient p s i) (gradient p s j) r.after.ahead
@@ -76,10 +76,10 @@ module _ (p : Problem) (s : State) (floor : Float) (i j : ℕ) where
       (curvature_divides alike (diagonal p s i) (diagonal p s j) (row p s i j) floor w.diagonal_i w.diagonal_j w.entry w.above)
 
   -- no step of a pair that the choice gives is NaN
-  pub no_nan_c : (eps : Float) (a : ℕ) → Plain → choice_c p s floor eps a ≡ Pair i j → NotNan (delta_at p s floor i j)
+  pub no_nan_c : (eps : Float) (a : ℕ) → Plain → choice_c p s floor eps a ≡ Some (i, j) → NotNan (delta_at p s floor i j)
   no_nan_c eps a w e = step_real_at w (chosen_c p s floor eps a i j e)
 
-  pub no_nan_nu : (eps : Float) (a : ℕ) → Plain → choice_nu p s floor eps a ≡ Pair i j → NotNan (delta_at p s floor i j)
+  pub no_nan_nu : (eps : Float) (a : ℕ) → Plain → choice_nu p s floor eps a ≡ Some (i, j) → NotNan (delta_at p s floor i j)
   no_nan_nu eps a w e = step_real_at w (chosen_nu p s floor eps a i j e)
 
   -- and under one ceiling such a step leaves both weights in the box

@@ -5,12 +5,12 @@ use mathlib.Core.List.{List}
 use mathlib.Core.Path.{◌≡◌}
 use native.Mathlib.Omega.{arith}
 use lib.Ieee.{Float}
+use Rattle.std.specs.Prelude.{Some}
 use Rattle.boxed.specs.Delta.{delta_at}
 use Rattle.boxed.specs.Range.{In}
 use Rattle.boxed.proofs.Pairs.{no_nan_c, no_nan_nu}
 use Rattle.choose_c.specs.Choice.{choice_c}
 use Rattle.choose_nu.specs.Choice.{choice_nu}
-use Rattle.extreme.specs.declared.Choice.TheVariants.{Pair}
 use Rattle.modes.specs.Modes.{repaired}
 use Rattle.reconstruct.specs.Reconstruct.{reconstructed}
 use Rattle.rounding.specs.Units.{NotNan}
@@ -40,7 +40,7 @@ module _ (g : Given) (m : List ℕ) {b : Float} {bs : List Float} (o : OneCeilin
   B = Boxed b p
 
   -- the step of a pair that is chosen is no NaN
-  step_real : (w : Full) (i j : ℕ) → chosen g m w ≡ Pair i j → Keeps g B w → NotNan (delta_at p w.state g.floor i j)
+  step_real : (w : Full) (i j : ℕ) → chosen g m w ≡ Some (i, j) → Keeps g B w → NotNan (delta_at p w.state g.floor i j)
   unfolding chosen
   step_real w i j e h = go g.nu e
     where
@@ -50,7 +50,7 @@ module _ (g : Given) (m : List ℕ) {b : Float} {bs : List Float} (o : OneCeilin
       hj : j < g.n
       hj = let q = chosen_below g m w i j e in let a = h.active in omega (arith, q.1)
 
-      go : (x : Bool) → cond x (choice_nu p w.state g.floor g.eps w.run.active) (choice_c p w.state g.floor g.eps w.run.active) ≡ Pair i j
+      go : (x : Bool) → cond x (choice_nu p w.state g.floor g.eps w.run.active) (choice_c p w.state g.floor g.eps w.run.active) ≡ Some (i, j)
           → NotNan (delta_at p w.state g.floor i j)
       go true q = no_nan_nu p w.state g.floor i j g.eps w.run.active (plain o h.kept i j hi hj) q
       go false q = no_nan_c p w.state g.floor i j g.eps w.run.active (plain o h.kept i j hi hj) q
@@ -61,7 +61,7 @@ module _ (g : Given) (m : List ℕ) {b : Float} {bs : List Float} (o : OneCeilin
   by_moved : (s : State) (i j : ℕ) → i < g.n → j < g.n → B s → B (moved g.n s i j)
   by_moved s i j x y w = boxed_moved w i j x y
 
-  by_updated : (w : Full) (i j : ℕ) → chosen g m w ≡ Pair i j → Keeps g B w → B (updated_state p bs g.mode g.floor w.state i j w.run.active)
+  by_updated : (w : Full) (i j : ℕ) → chosen g m w ≡ Some (i, j) → Keeps g B w → B (updated_state p bs g.mode g.floor w.state i j w.run.active)
   by_updated w i j e h =
       let l = chosen_below g m w i j e in
       boxed_updated o h.kept g.mode i j w.run.active (omega (arith, l.0, h.active)) (omega (arith, l.1, h.active)) h.active (chosen_apart g m w i j e) (step_real w i j e h)
@@ -79,12 +79,12 @@ module _ (g : Given) (m : List ℕ) {b : Float} {bs : List Float} (o : OneCeilin
       ((trained_keeps g m B by_rebuilt by_moved bs by_updated budget s (boxed_started p bs h)).kept.lent.held k l).value
 
   -- the pair that is chosen there steps by no NaN
-  pub no_nan_chosen : (s : State) → LentBoxed b p s → (t i j : ℕ) → chosen g m (runs g m bs (start_of g m bs s) t) ≡ Pair i j
+  pub no_nan_chosen : (s : State) → LentBoxed b p s → (t i j : ℕ) → chosen g m (runs g m bs (start_of g m bs s) t) ≡ Some (i, j)
       → NotNan (delta_at p (runs g m bs (start_of g m bs s) t).state g.floor i j)
   no_nan_chosen s h t i j e = step_real (runs g m bs (start_of g m bs s) t) i j e (box_runs s h t)
 
   -- no step is NaN: where the pass after t steps with i and j, it steps from its last look
-  pub no_nan_runs : (s : State) → LentBoxed b p s → (t i j : ℕ) → pair_from g m (runs g m bs (start_of g m bs s) t) ≡ Pair i j
+  pub no_nan_runs : (s : State) → LentBoxed b p s → (t i j : ℕ) → pair_from g m (runs g m bs (start_of g m bs s) t) ≡ Some (i, j)
       → NotNan (delta_at p (look_at g m (counted_down g m (runs g m bs (start_of g m bs s) t))).state g.floor i j)
   no_nan_runs s h t i j e =
       let w = runs g m bs (start_of g m bs s) t in

@@ -6,9 +6,9 @@ use mathlib.Core.Logic.{◌⊎◌, ◌↔◌}
 use mathlib.Core.Path.{◌≡◌}
 use native.Mathlib.Nat.{lt_of_lt_of_le}
 use lib.Ieee.{Float, binary64, inf, add}
+use Rattle.std.specs.Prelude.{Some, None}
 use Rattle.extreme.specs.Best.{Below, at_least, best}
 use Rattle.extreme.specs.Rule.{everybody}
-use Rattle.extreme.specs.declared.Choice.TheVariants.{Pair, Optimal}
 use Rattle.extreme.specs.declared.Extreme.{Extreme}
 use Rattle.extreme.proofs.Rule.{Words}
 use Rattle.extreme.proofs.Tests.{greatest_words}
@@ -49,11 +49,11 @@ module _ (p : Problem) (s : State) (a : ℕ) where
     R t = RisesC everybody p s a
 
     -- a pair exactly where gmax1 + gmax2 isn't below eps, i holds gmax1, and j is the last of the least gain of those that follow it
-    pub pair_rule : (i j : ℕ) → (choice_c p s floor eps a ≡ Pair i j) ↔ ((stop_c (extremes_c p s a) eps ≡ false) × Pairs everybody p s floor a R i j)
+    pub pair_rule : (i j : ℕ) → (choice_c p s floor eps a ≡ Some (i, j)) ↔ ((stop_c (extremes_c p s a) eps ≡ false) × Pairs everybody p s floor a R i j)
     unfolding choice_c choice second extremes_c
     pair_rule i j = choice_pair everybody p s floor a (λ t. risen_c everybody p s a) R (λ t. rises_c everybody p s a) (stop_c (extremes_c p s a) eps) i j
 
     -- optimal exactly where gmax1 + gmax2 < eps, or no j exists
-    pub optimal_rule : (choice_c p s floor eps a ≡ Optimal) ↔ ((stop_c (extremes_c p s a) eps ≡ true) ⊎ NoSecond everybody p s floor a R)
+    pub optimal_rule : (choice_c p s floor eps a ≡ None) ↔ ((stop_c (extremes_c p s a) eps ≡ true) ⊎ NoSecond everybody p s floor a R)
     unfolding choice_c choice second extremes_c
     optimal_rule = choice_optimal everybody p s floor a (λ t. risen_c everybody p s a) R (λ t. rises_c everybody p s a) (stop_c (extremes_c p s a) eps)

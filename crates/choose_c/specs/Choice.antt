@@ -1,10 +1,9 @@
 -- The pair choice of the C rule (the rule, section 'Pair choice, C rule').
-use Rattle.std.specs.Prelude.{ℕ, Bool, true, Float}
+use Rattle.std.specs.Prelude.{ℕ, Bool, true, Float, Option}
 use Rattle.std.specs.Float.{binary64, inf}
 use Rattle.std.specs.Float.Ieee.{add, lt}
 use Rattle.alpha.specs.declared.Alpha.{Alpha}
 use Rattle.extreme.specs.Best.{at_least, weighed, best}
-use Rattle.extreme.specs.declared.Choice.{Choice}
 use Rattle.extreme.specs.declared.Extreme.{Extreme}
 use Rattle.partner.specs.Second.{choice}
 use Rattle.partner.specs.Sides.{rises_of, falls_of, rise_of, fall_of, may_rise, may_fall, rise, fall}
@@ -35,5 +34,5 @@ stop_c e eps = lt (add binary64 e.gmax1.value e.gmax2.value) eps
 abbrev pub lead_c : Problem → State → ℕ → Bool → Extreme
 lead_c p s a t = (extremes_c p s a).gmax1
 
-unfoldable pub choice_c : Problem → State → Float → Float → ℕ → Choice
+unfoldable pub choice_c : Problem → State → Float → Float → ℕ → Option (ℕ × ℕ)
 choice_c p s floor eps a = choice p s floor (lead_c p s a) (stop_c (extremes_c p s a) eps) a

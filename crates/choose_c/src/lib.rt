@@ -1,15 +1,16 @@
 // The pair choice of the C rule.
-// The parameters f, u, y are the lent lists, and n, side, kind, m what a run is given: state/specs/Lists.antt.
+// The parameters f, u, y are the lent lists: state/specs/Lists.antt.
 #![tactic(auto)]
 
 ghost use Rattle.std.specs.Prelude.{◌≡◌, ◌≤◌};
-ghost use Rattle.state.specs.Lists.{problem, state, Ready};
+ghost use Rattle.state.specs.Lists.{given, state, Ready};
 ghost use Rattle.choose_c.specs.Choice.{extremes_c, weighed_c, choice_c};
-ghost use Rattle.choose_c.specs.Stirred.{stirred_c};
+ghost use Rattle.choose_c.specs.Stirred.{stirred_c, laws_c};
 
 use alpha::Alpha;
-use extreme::{Choice, Extreme, Found};
-use kernel::Kind;
+use extreme::Extreme;
+use kernel::Problem;
+use partner::Weighing;
 
 #[derive(Clone, Copy)]
 pub struct Extremes {
@@ -17,91 +18,39 @@ pub struct Extremes {
     pub gmax2: Extreme,
 }
 
-// One more position weighed.
-fn weighed(e: Extremes, k: usize, pos: bool, g: f64, w: Alpha) -> Extremes
-    ensures { result ≡ weighed_c e k pos g w }
-{
-    let p = e.gmax1;
-    let q = e.gmax2;
-    Extremes {
-        gmax1: extreme::raised(p, partner::may_rise(pos, w), k, partner::rise_of(pos, g)),
-        gmax2: extreme::raised(q, partner::may_fall(pos, w), k, partner::fall_of(pos, g)),
-    }
-}
+impl Weighing for Extremes {
+    ghost among = { extremes_c };
 
-// Whether the position may change one of the two.
-fn stirs(e: Extremes, pos: bool, g: f64, w: Alpha) -> bool
-    ensures { result ≡ stirred_c e pos g w }
-{
-    let p = e.gmax1;
-    let q = e.gmax2;
-    if pos {
-        partner::stirs(g, w, p.value, q.value)
-    } else {
-        partner::stirs(g, w, q.value, p.value)
-    }
-}
+    ghost weigh = { weighed_c };
 
-// The first position from here on that stirs, or active: nobody before it changes an extreme.
-fn calm_to(
-    f: &[f64],
-    u: &[u64],
-    y: &[u8],
-    n: usize,
-    side: usize,
-    kind: Kind,
-    m: &[u8],
-    from: usize,
-    active: usize,
-    e: Extremes,
-) -> usize
-    requires { (Ready (problem n side kind m.now) (state f.now u.now y.now)) × (active ≤ n) × (from ≤ active)
-        × (e ≡ extremes_c (problem n side kind m.now) (state f.now u.now y.now) from) }
-    ensures { (from ≤ result) × (result ≤ active) × (e ≡ extremes_c (problem n side kind m.now)
-        (state f.now u.now y.now) result) }
-{
-    let mut k = from;
-    while k < active {
-        if stirs(e, y[k] == 1, f[k], state::alpha_at(f, n, k)) {
-            return k;
-        }
-        k += 1;
-    }
-    k
-}
+    ghost stirred_by = { stirred_c };
 
-// The largest rise and the largest fall of the active positions. Of most positions nothing more is asked than whether they stir.
-pub fn max_violating_pair(
-    f: &[f64],
-    u: &[u64],
-    y: &[u8],
-    n: usize,
-    side: usize,
-    kind: Kind,
-    m: &[u8],
-    active: usize,
-) -> Extremes
-    requires { (Ready (problem n side kind m.now) (state f.now u.now y.now)) × (active ≤ n) }
-    ensures { result ≡ extremes_c (problem n side kind m.now)
-        (state f.now u.now y.now) active }
-{
-    let none = Extreme {
-        value: -1.0 / 0.0,
-        holder: Found::Nobody,
-    };
-    let mut e = Extremes {
-        gmax1: none,
-        gmax2: none,
-    };
-    let mut k = 0;
-    while k < active {
-        k = calm_to(f, u, y, n, side, kind, m, k, active, e);
-        if k < active {
-            e = weighed(e, k, y[k] == 1, f[k], state::alpha_at(f, n, k));
-            k += 1;
+    ghost laws = { laws_c };
+
+    fn none() -> Extremes {
+        let none = extreme::nobody(f64::NEG_INFINITY);
+        Extremes {
+            gmax1: none,
+            gmax2: none,
         }
     }
-    e
+
+    fn weighed(self, k: usize, pos: bool, g: f64, w: Alpha) -> Extremes {
+        let up = partner::may_rise(pos, w);
+        let down = partner::may_fall(pos, w);
+        Extremes {
+            gmax1: extreme::raised(self.gmax1, up, k, partner::rise_of(pos, g)),
+            gmax2: extreme::raised(self.gmax2, down, k, partner::fall_of(pos, g)),
+        }
+    }
+
+    fn stirs(self, pos: bool, g: f64, w: Alpha) -> bool {
+        if pos {
+            partner::stirs(g, w, self.gmax1.value, self.gmax2.value)
+        } else {
+            partner::stirs(g, w, self.gmax2.value, self.gmax1.value)
+        }
+    }
 }
 
 // The pair to work on, or that there is none.
@@ -109,21 +58,16 @@ pub fn select_working_set(
     f: &[f64],
     u: &[u64],
     y: &[u8],
-    n: usize,
-    side: usize,
-    kind: Kind,
-    m: &[u8],
+    p: Problem<'_>,
     floor: f64,
     eps: f64,
     active: usize,
-) -> Choice
-    requires { (Ready (problem n side kind m.now) (state f.now u.now y.now)) × (active ≤ n) }
-    ensures { result ≡ choice_c (problem n side kind m.now)
+) -> Option<(usize, usize)>
+    requires { (Ready (given p) (state f.now u.now y.now)) × (active ≤ p.n) }
+    ensures { result ≡ choice_c (given p.entry)
         (state f.now u.now y.now) floor eps active }
 {
-    let e = max_violating_pair(f, u, y, n, side, kind, m, active);
-    let lead = e.gmax1;
-    let other = e.gmax2;
-    let stop = lead.value + other.value < eps;
-    partner::chosen(f, u, y, n, side, kind, m, floor, lead, lead, stop, active)
+    let e: Extremes = partner::max_violating_pair(f, u, y, p, active);
+    let stop = e.gmax1.value + e.gmax2.value < eps;
+    partner::chosen(f, u, y, p, floor, e.gmax1, e.gmax1, stop, active)
 }

@@ -6,9 +6,9 @@ use mathlib.Core.Logic.{◌⊎◌, ◌↔◌}
 use mathlib.Core.Path.{◌≡◌}
 use native.Mathlib.Nat.{lt_of_lt_of_le}
 use lib.Ieee.{Float, binary64, inf, add}
+use Rattle.std.specs.Prelude.{Some, None}
 use Rattle.extreme.specs.Best.{Below, above, best}
 use Rattle.extreme.specs.Rule.{everybody}
-use Rattle.extreme.specs.declared.Choice.TheVariants.{Pair, Optimal}
 use Rattle.extreme.specs.declared.Extreme.{Extreme}
 use Rattle.extreme.proofs.Rule.{Words}
 use Rattle.extreme.proofs.Tests.{first_words}
@@ -47,11 +47,11 @@ module _ (p : Problem) (s : State) (a : ℕ) where
 
   module _ (floor eps : Float) where
     -- a pair exactly where the larger sum isn't below eps, i holds the lead of j's label, and j is the last of the least gain of those that follow theirs
-    pub pair_rule : (i j : ℕ) → (choice_nu p s floor eps a ≡ Pair i j) ↔ ((stop_nu (risen p s a) (fallen p s a) eps ≡ false) × Pairs everybody p s floor a (RisesNu everybody p s a) i j)
+    pub pair_rule : (i j : ℕ) → (choice_nu p s floor eps a ≡ Some (i, j)) ↔ ((stop_nu (risen p s a) (fallen p s a) eps ≡ false) × Pairs everybody p s floor a (RisesNu everybody p s a) i j)
     unfolding choice_nu choice second risen fallen
     pair_rule i j = choice_pair everybody p s floor a (risen_nu everybody p s a) (RisesNu everybody p s a) (rises_nu everybody p s a) (stop_nu (risen p s a) (fallen p s a) eps) i j
 
     -- optimal exactly where the larger sum is below eps, or no j exists
-    pub optimal_rule : (choice_nu p s floor eps a ≡ Optimal) ↔ ((stop_nu (risen p s a) (fallen p s a) eps ≡ true) ⊎ NoSecond everybody p s floor a (RisesNu everybody p s a))
+    pub optimal_rule : (choice_nu p s floor eps a ≡ None) ↔ ((stop_nu (risen p s a) (fallen p s a) eps ≡ true) ⊎ NoSecond everybody p s floor a (RisesNu everybody p s a))
     unfolding choice_nu choice second risen fallen
     optimal_rule = choice_optimal everybody p s floor a (risen_nu everybody p s a) (RisesNu everybody p s a) (rises_nu everybody p s a) (stop_nu (risen p s a) (fallen p s a) eps)

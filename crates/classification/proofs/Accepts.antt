@@ -1,38 +1,16 @@
 -- Where an entry accepts, nothing was refused, and its outcome is that of its fit. Assumes nothing.
-use Prim.Native.Nat.{ℕ}
-use mathlib.Core.Bool.{Bool, true, false, cond}
-use mathlib.Core.Path.{◌≡◌, refl, ap}
-use native.Mathlib.Omega.{arith}
-use borrow.Author.Tests.{eqb-true}
-use lib.Dec.{eqb}
-use Rattle.answer.specs.Lent.{Lent, Whole, untouched}
+use mathlib.Core.Path.{◌≡◌, refl}
+use Rattle.answer.specs.Lent.{Lent, Whole}
 use Rattle.answer.specs.declared.Answer.{Answer}
-use Rattle.answer.specs.declared.Outcome.{Outcome}
-use Rattle.answer.specs.declared.Outcome.TheVariants.{Accepted, Refused}
-use Rattle.classification.specs.Entries.{decided, entered}
-use Rattle.judge.specs.declared.Judged.{Judged}
-use Rattle.judge.specs.declared.Judged.TheVariants.{Fine, Bad}
+use Rattle.classification.specs.Entries.{decided}
+use Rattle.std.specs.Prelude.{⊤, Result, Ok, Err}
+use Rattle.judge.specs.declared.Refusal.{Refusal}
 
-unfoldable is_in : Outcome → ℕ
-is_in (Accepted a) = 1
-is_in (Refused number index) = 0
+pub refused_apart : (refusal : Refusal) (x : Answer) → ◌≡◌ {A = Result Answer Refusal} (Err refusal) (Ok x) → ⊥
+refused_apart refusal x e = cc
 
-pub refused_apart : (number index : ℕ) (x : Answer) → ◌≡◌ {A = Outcome} (Refused number index) (Accepted x) → ⊥
-unfolding is_in
-refused_apart number index x e = let z : ◌≡◌ {A = ℕ} 0 1 = ap is_in e in omega arith
-
-module _ (w : Whole) (d : Lent) (x : Answer) where
-  -- refusals 1 and 2
-  pub entered_in : (number : ℕ) → (entered number w d).out ≡ Accepted x → (number ≡ 0) × (entered number w d ≡ w)
-  unfolding entered
-  entered_in number = go (eqb number 0) refl
-    where
-      go : (b : Bool) → eqb number 0 ≡ b → (cond b w (untouched (Refused number 0) d)).out ≡ Accepted x → (number ≡ 0) × (cond b w (untouched (Refused number 0) d) ≡ w)
-      go true e h = (eqb-true number 0 e, refl)
-      go false e h = absurd (refused_apart number 0 x h)
-
-  -- refusals 3 to 10
-  pub decided_in : (j : Judged) → (decided j w d).out ≡ Accepted x → (j ≡ Fine) × (decided j w d ≡ w)
-  unfolding decided
-  decided_in Fine h = (refl, refl)
-  decided_in (Bad number index) h = absurd (refused_apart number index x h)
+-- refusals 1 to 10 and 12 to 14
+pub decided_in : (w : Whole) (d : Lent) (x : Answer) (j : Result ⊤ Refusal) → (decided j w d).out ≡ Ok x → (j ≡ Ok tt) × (decided j w d ≡ w)
+unfolding decided
+decided_in w d x (Ok p) h = (refl, refl)
+decided_in w d x (Err refusal) h = let z : ⊥ = cc in absurd z

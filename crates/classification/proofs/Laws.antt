@@ -14,7 +14,6 @@ use Rattle.answer.specs.declared.Finish.{Finish}
 use Rattle.fits.specs.Load.{loaded}
 use Rattle.fits.proofs.Loaded.{ready_loaded, paired_loaded}
 use Rattle.judge.specs.Judge.{first, entry_good, budget_good, general_judged, c_judged, nu_judged, one_class_judged}
-use Rattle.judge.specs.declared.Judged.TheVariants.{Fine}
 use Rattle.judge.proofs.Accepted.{matrix_fine, general_fine, c_fine, nu_fine, one_class_fine}
 use Rattle.judge.proofs.Lengths.{long_enough}
 use Rattle.kernel.specs.Matrix.{Matrix}
@@ -24,6 +23,8 @@ use Rattle.solver.specs.declared.Given.{Given}
 use Rattle.state.specs.Lists.{State, Ready}
 use Rattle.travel.specs.Travel.{Paired}
 use Rattle.classification.specs.Entries.{scratch_of, fitted}
+use Rattle.std.specs.Prelude.{Ok}
+use Rattle.judge.specs.declared.Refusal.TheVariants.{Kernel}
 
 budget_small : (budget : ℕ) → budget_good budget ≡ true → budget ≤ 10000000
 unfolding budget_good
@@ -37,19 +38,19 @@ pub record Usable (n : ℕ) (m : List ℕ) (budget : ℕ) : Type 0 where
   pub budget_most : budget ≤ 10000000
 
 module _ (n : ℕ) (m : List ℕ) (budget : ℕ) (most : n ≤ 512) (long : length m ≡ 8 * (n * n)) where
-  usable : first 3 (entry_good m) (n * n) 0 ≡ Fine → budget_good budget ≡ true → Usable n m budget
+  usable : first Kernel (entry_good m) (n * n) 0 ≡ Ok tt → budget_good budget ≡ true → Usable n m budget
   usable x y = record { matrix = matrix_fine n m most (le_of_eq (sym long)) x; budget_most = budget_small budget y }
 
-  pub usable_general : (l : List ℕ) (c a p : List Float) (eps : Float) → general_judged n m l c a p eps budget ≡ Fine → Usable n m budget
+  pub usable_general : (l : List ℕ) (c a p : List Float) (eps : Float) → general_judged n m l c a p eps budget ≡ Ok tt → Usable n m budget
   usable_general l c a p eps h = let q = general_fine n m l c a p eps budget h in usable q.matrix q.budget_good_law
 
-  pub usable_c : (l : List ℕ) (cpos cneg eps : Float) → c_judged n m l cpos cneg eps budget ≡ Fine → Usable n m budget
+  pub usable_c : (l : List ℕ) (cpos cneg eps : Float) → c_judged n m l cpos cneg eps budget ≡ Ok tt → Usable n m budget
   usable_c l cpos cneg eps h = let q = c_fine n m l cpos cneg eps budget h in usable q.matrix q.budget_good_law
 
-  pub usable_nu : (l : List ℕ) (nu eps : Float) → nu_judged n m l nu eps budget ≡ Fine → Usable n m budget
+  pub usable_nu : (l : List ℕ) (nu eps : Float) → nu_judged n m l nu eps budget ≡ Ok tt → Usable n m budget
   usable_nu l nu eps h = let q = nu_fine n m l nu eps budget h in usable q.matrix q.budget_good_law
 
-  pub usable_one_class : (nu eps : Float) → one_class_judged n m nu eps budget ≡ Fine → Usable n m budget
+  pub usable_one_class : (nu eps : Float) → one_class_judged n m nu eps budget ≡ Ok tt → Usable n m budget
   usable_one_class nu eps h = let q = one_class_fine n m nu eps budget h in usable q.matrix q.budget_good_law
 
 -- ---- the lengths

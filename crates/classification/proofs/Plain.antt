@@ -19,7 +19,7 @@ use Rattle.kernel.specs.declared.Kind.TheVariants.{TwoClass, OneClass}
 use Rattle.modes.specs.declared.Mode.TheVariants.{Crate}
 use Rattle.solver.specs.declared.Given.{Given}
 use Rattle.tuning.specs.Tuning.{plain_tuning}
-use Rattle.classification.specs.Entries.{sizes_of, entered, decided, fitted, general_tuned, general_tuned_sized, fit_c_tuned, fit_c_tuned_sized, fit_nu_tuned, fit_nu_tuned_sized, fit_one_class_tuned, fit_one_class_tuned_sized, general_of, fit_c_of, fit_nu_of, fit_one_class_of}
+use Rattle.classification.specs.Entries.{sizes_of, decided, fitted, general_tuned, general_tuned_sized, fit_c_tuned, fit_c_tuned_sized, fit_nu_tuned, fit_nu_tuned_sized, fit_one_class_tuned, fit_one_class_tuned_sized, general_of, fit_c_of, fit_nu_of, fit_one_class_of}
 
 pub plain_good : floor_good Weight.floor ≡ true
 unfolding floor_good of_bits lt le
@@ -38,7 +38,7 @@ module _ (n : ℕ) (m l : List ℕ) (eps : Float) (shrinking : Bool) (budget : �
 
   pub general_plain : (c a p : List Float) (nurule : Bool)
       → general_of n m l c a p nurule eps shrinking budget d
-      ≡ entered (sizes_of n (eqb (length l) n && eqb (length c) n && eqb (length a) n && eqb (length p) n) m d) (decided (general_judged n m l c a p eps budget) (fitted (given_then n TwoClass eps shrinking nurule) Plain m l c a p budget d) d) d
+      ≡ decided (sizes_of n (eqb (length l) n && eqb (length c) n && eqb (length a) n && eqb (length p) n) m d) (decided (general_judged n m l c a p eps budget) (fitted (given_then n TwoClass eps shrinking nurule) Plain m l c a p budget d) d) d
   unfolding general_tuned
   general_plain c a p nurule = rw (general_sized_plain c a p nurule)
 
@@ -50,7 +50,7 @@ module _ (n : ℕ) (m l : List ℕ) (eps : Float) (shrinking : Bool) (budget : �
 
   pub c_plain : (cpos cneg : Float)
       → fit_c_of n m l cpos cneg eps shrinking budget d
-      ≡ entered (sizes_of n (eqb (length l) n) m d) (decided (c_judged n m l cpos cneg eps budget) (fitted (given_then n TwoClass eps shrinking false) Signed m l (costs_to cpos cneg l nothing n) nothing (evenly minus_one n) budget d) d) d
+      ≡ decided (sizes_of n (eqb (length l) n) m d) (decided (c_judged n m l cpos cneg eps budget) (fitted (given_then n TwoClass eps shrinking false) Signed m l (costs_to cpos cneg l nothing n) nothing (evenly minus_one n) budget d) d) d
   unfolding fit_c_tuned
   c_plain cpos cneg = rw (c_sized_plain cpos cneg)
 
@@ -62,7 +62,7 @@ module _ (n : ℕ) (m l : List ℕ) (eps : Float) (shrinking : Bool) (budget : �
 
   pub nu_plain : (nu : Float)
       → fit_nu_of n m l nu eps shrinking budget d
-      ≡ entered (sizes_of n (eqb (length l) n) m d) (decided (nu_judged n m l nu eps budget) (fitted (given_then n TwoClass eps shrinking true) Scaled m l (evenly one n) (shared_to (half nu n) l nothing n) nothing budget d) d) d
+      ≡ decided (sizes_of n (eqb (length l) n) m d) (decided (nu_judged n m l nu eps budget) (fitted (given_then n TwoClass eps shrinking true) Scaled m l (evenly one n) (shared_to (half nu n) l nothing n) nothing budget d) d) d
   unfolding fit_nu_tuned
   nu_plain nu = rw (nu_sized_plain nu)
 
@@ -74,6 +74,6 @@ module _ (n : ℕ) (m l : List ℕ) (eps : Float) (shrinking : Bool) (budget : �
 
   pub one_class_plain : (nu : Float)
       → fit_one_class_of n m nu eps shrinking budget d
-      ≡ entered (sizes_of n (true) m d) (decided (one_class_judged n m nu eps budget) (fitted (given_then n OneClass eps shrinking false) Plain m (all_positive n) (evenly one n) (one_class_to nu n nothing n) nothing budget d) d) d
+      ≡ decided (sizes_of n (true) m d) (decided (one_class_judged n m nu eps budget) (fitted (given_then n OneClass eps shrinking false) Plain m (all_positive n) (evenly one n) (one_class_to nu n nothing n) nothing budget d) d) d
   unfolding fit_one_class_tuned
   one_class_plain nu = rw (one_class_sized_plain nu)

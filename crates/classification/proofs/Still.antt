@@ -4,9 +4,8 @@ use mathlib.Core.Bool.{Bool, true, false}
 use mathlib.Core.List.{List}
 use mathlib.Core.Path.{◌≡◌, refl, ap, ◌∙◌}
 use lib.Ieee.{Float}
+use Rattle.std.specs.Prelude.{Option, Some, None}
 use Rattle.answer.specs.Solved.{stuck}
-use Rattle.extreme.specs.declared.Choice.{Choice}
-use Rattle.extreme.specs.declared.Choice.TheVariants.{Pair, Optimal}
 use Rattle.solver.specs.End.{closed, trained}
 use Rattle.solver.specs.Pass.{chosen, counted_down, stepped, looked, worked_by, onward, passed, next, runs}
 use Rattle.solver.specs.Run.{Full, with_run, goes, counter_at}
@@ -25,15 +24,15 @@ module _ (g : Given) (m : List ℕ) (b : List Float) (off : g.shrinking ≡ fals
   unfolding stepped
   stepped_still w i j s = record { order = s.order; active = s.active; free = s.free }
 
-  looked_still : (w : Full) (c : Choice) → Still u g.n w → Still u g.n (looked g m b w c)
+  looked_still : (w : Full) (c : Option (ℕ × ℕ)) → Still u g.n w → Still u g.n (looked g m b w c)
   unfolding looked stuck
-  looked_still w (Pair i j) s = stepped_still (with_run w (counter_at w.run 1)) i j (record { order = s.order; active = s.active; free = s.free })
-  looked_still w Optimal s = record { order = s.order; active = s.active; free = refl }
+  looked_still w (Some (i, j)) s = stepped_still (with_run w (counter_at w.run 1)) i j (record { order = s.order; active = s.active; free = s.free })
+  looked_still w None s = record { order = s.order; active = s.active; free = refl }
 
-  worked_still : (w : Full) (c : Choice) → Still u g.n w → Still u g.n (worked_by g m b w c)
+  worked_still : (w : Full) (c : Option (ℕ × ℕ)) → Still u g.n w → Still u g.n (worked_by g m b w c)
   unfolding worked_by
-  worked_still w (Pair i j) s = stepped_still w i j s
-  worked_still w Optimal s = rw (refreshed_off g m w s.active) (looked_still w (chosen g m w) s)
+  worked_still w (Some (i, j)) s = stepped_still w i j s
+  worked_still w None s = rw (refreshed_off g m w s.active) (looked_still w (chosen g m w) s)
 
   onward_still : (x : Bool) (w : Full) → Still u g.n w → Still u g.n (onward g m b x w)
   unfolding onward

@@ -1,23 +1,21 @@
 -- The four entries: refusals, else the run and its answer (the rule, sections 'What a caller lends and gets' and 'Fits').
-use Rattle.std.specs.Prelude.{ℕ, Bool, true, false, ◌&&◌, cond, List, eqb, Float, length}
+use Rattle.std.specs.Prelude.{ℕ, Bool, true, false, ◌&&◌, List, eqb, Float, length, ⊤, Result, Ok, Err}
 use Rattle.alpha.specs.Weight.{one, minus_one}
 use Rattle.answer.specs.Lent.{Lent, lent, Whole, untouched}
 use Rattle.answer.specs.Solved.{solved}
 use Rattle.answer.specs.declared.Finish.{Finish}
 use Rattle.answer.specs.declared.Finish.TheVariants.{Plain, Signed, Scaled}
-use Rattle.answer.specs.declared.Outcome.TheVariants.{Refused}
 use Rattle.fits.specs.Load.{loaded}
 use Rattle.fits.specs.Starts.{nothing, evenly, all_positive, costs_to, half, shared_to, one_class_to}
 use Rattle.judge.specs.Judge.{general_judged, c_judged, nu_judged, one_class_judged, floor_judged}
 use Rattle.judge.specs.Sizes.{sizes}
-use Rattle.judge.specs.declared.Judged.{Judged}
-use Rattle.judge.specs.declared.Judged.TheVariants.{Fine, Bad}
 use Rattle.kernel.specs.declared.Kind.{Kind}
 use Rattle.kernel.specs.declared.Kind.TheVariants.{TwoClass, OneClass}
 use Rattle.solver.specs.declared.Given.{Given}
 use Rattle.state.specs.Lists.{State, state}
 use Rattle.tuning.specs.Tuning.{plain_tuning}
 use Rattle.tuning.specs.declared.Tuning.{Tuning}
+use Rattle.judge.specs.declared.Refusal.{Refusal}
 
 abbrev pub given_by : Tuning → ℕ → Kind → Float → Bool → Bool → Given
 given_by t n kind eps shrinking nu = record { n = n; side = n; kind = kind; mode = t.mode; floor = t.floor; eps = eps; shrinking = shrinking; nu = nu }
@@ -33,16 +31,13 @@ fitted g how m l c a p budget d =
     let s = loaded g.n l c a p (scratch_of d) in
     solved g how m l c budget (lent d.crate d.home s.floats s.numbers s.labels)
 
--- refusals 3 to 10 and 12 to 14
-unfoldable pub decided : Judged → Whole → Lent → Whole
-decided Fine w d = w
-decided (Bad number index) w d = untouched (Refused number index) d
+-- what is refused before the run leaves d as it was
+unfoldable pub decided : Result ⊤ Refusal → Whole → Lent → Whole
+decided (Ok x) w d = w
+decided (Err refusal) w d = untouched (Err refusal) d
 
 -- refusals 1 and 2
-unfoldable pub entered : ℕ → Whole → Lent → Whole
-entered number w d = cond (eqb number 0) w (untouched (Refused number 0) d)
-
-abbrev pub sizes_of : ℕ → Bool → List ℕ → Lent → ℕ
+abbrev pub sizes_of : ℕ → Bool → List ℕ → Lent → Result ⊤ Refusal
 sizes_of n inputs m d =
     sizes n inputs (length m) (length d.crate) (length d.home) (length d.floats) (length d.numbers) (length d.bytes)
 
@@ -59,7 +54,7 @@ general_tuned_sized t n m l c a p nurule eps shrinking budget d =
 unfoldable pub general_tuned : Tuning → ℕ → List ℕ → List ℕ → List Float → List Float → List Float → Bool → Float → Bool → ℕ → Lent → Whole
 general_tuned t n m l c a p nurule eps shrinking budget d =
     let inputs = eqb (length l) n && eqb (length c) n && eqb (length a) n && eqb (length p) n in
-    entered (sizes_of n inputs m d) (general_tuned_sized t n m l c a p nurule eps shrinking budget d) d
+    decided (sizes_of n inputs m d) (general_tuned_sized t n m l c a p nurule eps shrinking budget d) d
 
 -- alpha 0, linear term −1, ceilings by label; signed by label
 unfoldable pub fit_c_tuned_sized : Tuning → ℕ → List ℕ → List ℕ → Float → Float → Float → Bool → ℕ → Lent → Whole
@@ -71,7 +66,7 @@ fit_c_tuned_sized t n m l cpos cneg eps shrinking budget d =
 
 unfoldable pub fit_c_tuned : Tuning → ℕ → List ℕ → List ℕ → Float → Float → Float → Bool → ℕ → Lent → Whole
 fit_c_tuned t n m l cpos cneg eps shrinking budget d =
-    entered (sizes_of n (eqb (length l) n) m d) (fit_c_tuned_sized t n m l cpos cneg eps shrinking budget d) d
+    decided (sizes_of n (eqb (length l) n) m d) (fit_c_tuned_sized t n m l cpos cneg eps shrinking budget d) d
 
 -- alpha shared out by label, linear term 0, ceilings 1; signed by label and divided by r
 unfoldable pub fit_nu_tuned_sized : Tuning → ℕ → List ℕ → List ℕ → Float → Float → Bool → ℕ → Lent → Whole
@@ -83,7 +78,7 @@ fit_nu_tuned_sized t n m l nu eps shrinking budget d =
 
 unfoldable pub fit_nu_tuned : Tuning → ℕ → List ℕ → List ℕ → Float → Float → Bool → ℕ → Lent → Whole
 fit_nu_tuned t n m l nu eps shrinking budget d =
-    entered (sizes_of n (eqb (length l) n) m d) (fit_nu_tuned_sized t n m l nu eps shrinking budget d) d
+    decided (sizes_of n (eqb (length l) n) m d) (fit_nu_tuned_sized t n m l nu eps shrinking budget d) d
 
 -- no labels: all are positive, and no entry is negated
 unfoldable pub fit_one_class_tuned_sized : Tuning → ℕ → List ℕ → Float → Float → Bool → ℕ → Lent → Whole
@@ -94,7 +89,7 @@ fit_one_class_tuned_sized t n m nu eps shrinking budget d =
     d
 
 unfoldable pub fit_one_class_tuned : Tuning → ℕ → List ℕ → Float → Float → Bool → ℕ → Lent → Whole
-fit_one_class_tuned t n m nu eps shrinking budget d = entered (sizes_of n true m d) (fit_one_class_tuned_sized t n m nu eps shrinking budget d) d
+fit_one_class_tuned t n m nu eps shrinking budget d = decided (sizes_of n true m d) (fit_one_class_tuned_sized t n m nu eps shrinking budget d) d
 
 -- ---- as the published Rust runs
 

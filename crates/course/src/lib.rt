@@ -1,5 +1,5 @@
 // A training without an order table: start, passes until there is no pair or the budget is spent, and what it answers.
-// The parameters f and y are the lent floats and labels, cpos and cneg the ceilings by label, p the linear term: orderless/specs/Sheet.antt.
+// The parameters f and y are the lent floats and labels, p the linear term: orderless/specs/Sheet.antt.
 #![tactic(auto)]
 
 ghost use Rattle.std.specs.Prelude.{true, cond, ◌≡◌, ◌+◌, ◌*◌, ◌≤◌, ◌<◌, T, eqb, length, get_or};
@@ -16,12 +16,12 @@ ghost use Rattle.orderless.specs.Sheet.{read_in, ceilings_of, alpha_of};
 ghost use Rattle.orderless.specs.Step.{slope as slope_in};
 ghost use Rattle.sheet.specs.Ready.{SheetReady, Diagonal, Fitting};
 
-use extreme::Choice;
 use rho::{Level, Share};
+use sheet::Costs;
 use solver::Given;
 
-// How many steps a run has taken, and whether there may be more.
-#[derive(Clone, Copy)]
+// How many steps a run has taken, and whether there may be more. No Result: the steps count whichever way it ends.
+#[derive(Clone, Copy, Debug, PartialEq, Eq)]
 pub struct Went {
     pub steps: usize,
     pub going: bool,
@@ -33,6 +33,7 @@ fn diagonals(f: &mut [f64], m: &[u8], g: Given)
     ensures { f.new ≡ diagonal_in g m.now f.old g.n }
 {
     let n = g.n;
+    // Here and below by k, the sample: several lists, or several fields of one, are read or written at it.
     for k in 0..n {
         f[2 * n + k] = kernel::entry(m, g.side, k, k);
     }
@@ -54,7 +55,7 @@ fn bring(f: &mut [f64], m: &[u8], side: usize, n: usize, i: usize, x: f64)
     ensures { f.new ≡ raised_to (λ k. mul binary64 x (entry_at side m.now i k)) f.old n }
 {
     for k in 0..n {
-        f[k] = f[k] + x * kernel::entry(m, side, i, k);
+        f[k] += x * kernel::entry(m, side, i, k);
     }
 }
 
@@ -84,59 +85,54 @@ fn gather(f: &mut [f64], y: &[u8], m: &[u8], g: Given)
 }
 
 // The copies of each sample, from F.
-fn open(f: &mut [f64], y: &[u8], m: &[u8], g: Given, cpos: f64, cneg: f64)
+fn open(f: &mut [f64], y: &[u8], m: &[u8], g: Given, costs: Costs)
     requires { SheetReady g m.now y.now f.old }
-    ensures { f.new ≡ opened_to g m.now y.now (ceilings_of cpos cneg) f.old g.n }
+    ensures { f.new ≡ opened_to g m.now y.now (ceilings_of costs.pos costs.neg) f.old g.n }
 {
     let n = g.n;
     for k in 0..n {
         let x = f[n + k];
         let v = f[k];
-        sheet::place(f, y, g.nu, n, k, x, v, cpos, cneg);
+        sheet::place(f, y, g.nu, n, k, x, v, costs);
     }
 }
 
 // One pass: the pair and its step, or the end.
-fn pass(f: &mut [f64], y: &[u8], m: &[u8], g: Given, cpos: f64, cneg: f64, w: Went) -> Went
+fn pass(f: &mut [f64], y: &[u8], m: &[u8], g: Given, costs: Costs, w: Went) -> Went
     requires { (SheetReady g m.now y.now f.old) × (Diagonal g m.now f.old) × (Fitting g f.old) × (1 ≤ g.n) × (w.steps < 10000000) }
-    ensures { (◌≡◌ {A = Course} (course f.new result.steps result.going) (passes g m.now y.now (ceilings_of cpos cneg)
+    ensures { (◌≡◌ {A = Course} (course f.new result.steps result.going) (passes g m.now y.now (ceilings_of costs.pos costs.neg)
         (course f.old w.steps w.going) (choice_in g m.now y.now (read_in g.nu g.n f.old))))
         × (result.steps ≤ w.steps + 1) × (SheetReady g m.now y.now f.new) × (Diagonal g m.now f.new)
         × (Fitting g f.new) }
 {
-    let c = picks::choice(f, y, m, g);
-    match c {
-        Choice::Pair(i, j) => {
-            sheet::step(f, y, m, g, i, j, cpos, cneg);
-            Went {
-                steps: w.steps + 1,
-                going: true,
-            }
-        }
-        Choice::Optimal => Went {
+    let Some((i, j)) = picks::choice(f, y, m, g) else {
+        return Went {
             steps: w.steps,
             going: false,
-        },
+        };
+    };
+    sheet::step(f, y, m, g, i, j, costs);
+    Went {
+        steps: w.steps + 1,
+        going: true,
     }
 }
 
 // At most budget passes.
-fn go_on(f: &mut [f64], y: &[u8], m: &[u8], g: Given, cpos: f64, cneg: f64, budget: usize) -> Went
+fn go_on(f: &mut [f64], y: &[u8], m: &[u8], g: Given, costs: Costs, budget: usize) -> Went
     requires { (SheetReady g m.now y.now f.old) × (Diagonal g m.now f.old) × (Fitting g f.old) × (1 ≤ g.n) × (budget ≤ 10000000) }
     ensures { ◌≡◌ {A = Course} (course f.new result.steps result.going)
-        (goes_on g m.now y.now (ceilings_of cpos cneg) (course f.old 0 true) budget) }
+        (goes_on g m.now y.now (ceilings_of costs.pos costs.neg) (course f.old 0 true) budget) }
 {
     let mut w = Went {
         steps: 0,
         going: true,
     };
-    let mut t: usize = 0;
-    while t < budget {
+    for _ in 0..budget {
         if !w.going {
             return w;
         }
-        w = pass(f, y, m, g, cpos, cneg, w);
-        t += 1;
+        w = pass(f, y, m, g, costs, w);
     }
     w
 }
@@ -148,104 +144,80 @@ pub fn train(
     m: &[u8],
     g: Given,
     p: f64,
-    cpos: f64,
-    cneg: f64,
+    costs: Costs,
     budget: usize,
 ) -> Went
     requires { (SheetReady g m.now y.now f.old) × (1 ≤ g.n) × (budget ≤ 10000000) × (T (fits binary64 p)) }
     ensures { ◌≡◌ {A = Course} (course f.new result.steps result.going)
-        (orderless g m.now y.now (ceilings_of cpos cneg) (λ k. p) (diagonal_in g m.now f.old g.n) budget) }
+        (orderless g m.now y.now (ceilings_of costs.pos costs.neg) (λ k. p) (diagonal_in g m.now f.old g.n) budget) }
 {
     diagonals(f, m, g);
     begin(f, y, g.n, p);
     gather(f, y, m, g);
-    open(f, y, m, g, cpos, cneg);
-    go_on(f, y, m, g, cpos, cneg, budget)
+    open(f, y, m, g, costs);
+    go_on(f, y, m, g, costs, budget)
 }
 
-fn share_c(f: &[f64], y: &[u8], m: &[u8], g: Given, cpos: f64, cneg: f64) -> Share
+fn share_c(f: &[f64], y: &[u8], m: &[u8], g: Given, costs: Costs) -> Share
     requires { SheetReady g m.now y.now f.now }
-    ensures { (result ≡ share_c_of y.now (alpha_of y.now (ceilings_of cpos cneg) (read_in g.nu g.n f.now))
-        (slope_in g m.now y.now (ceilings_of cpos cneg) (read_in g.nu g.n f.now)) g.n) × (result.free ≤ 512) }
+    ensures { (result ≡ share_c_of y.now (alpha_of y.now (ceilings_of costs.pos costs.neg) (read_in g.nu g.n f.now))
+        (slope_in g m.now y.now (ceilings_of costs.pos costs.neg) (read_in g.nu g.n f.now)) g.n) × (result.free ≤ 512) }
 {
     let n = g.n;
-    let mut s = Share {
-        free: 0,
-        sum: 0.0,
-        ub: 1.0 / 0.0,
-        lb: -1.0 / 0.0,
-    };
+    let mut s = Share::none();
     for k in 0..n {
         let pos = y[k] == 1;
-        let w = sheet::alpha_in(f, y, g.nu, n, k, cpos, cneg);
-        s = rho::weigh(
-            s,
-            pos,
-            w,
-            rho::sign(pos, sheet::slope(f, y, g, k, cpos, cneg)),
-        );
+        let w = sheet::alpha_in(f, y, g.nu, n, k, costs);
+        s = rho::weigh(s, pos, w, rho::sign(pos, sheet::slope(f, y, g, k, costs)));
     }
     s
 }
 
-// x says whether the ub is lowered.
-fn share_nu(
-    f: &[f64],
-    y: &[u8],
-    m: &[u8],
-    g: Given,
-    cpos: f64,
-    cneg: f64,
-    label: u8,
-    x: bool,
-) -> Share
+// x says whether the ub is lowered. A loop of its own beside share_c, as the definitions have it: it passes samples over, and takes
+// the gradient without its sign.
+fn share_nu(f: &[f64], y: &[u8], m: &[u8], g: Given, costs: Costs, label: u8, x: bool) -> Share
     requires { SheetReady g m.now y.now f.now }
-    ensures { (result ≡ share_nu_of y.now (alpha_of y.now (ceilings_of cpos cneg) (read_in g.nu g.n f.now))
-        (slope_in g m.now y.now (ceilings_of cpos cneg) (read_in g.nu g.n f.now)) x label g.n) × (result.free ≤ 512) }
+    ensures { (result ≡ share_nu_of y.now (alpha_of y.now (ceilings_of costs.pos costs.neg) (read_in g.nu g.n f.now))
+        (slope_in g m.now y.now (ceilings_of costs.pos costs.neg) (read_in g.nu g.n f.now)) x label g.n) × (result.free ≤ 512) }
 {
     let n = g.n;
-    let mut s = Share {
-        free: 0,
-        sum: 0.0,
-        ub: 1.0 / 0.0,
-        lb: -1.0 / 0.0,
-    };
+    let mut s = Share::none();
     for k in 0..n {
-        let w = sheet::alpha_in(f, y, g.nu, n, k, cpos, cneg);
-        s = rho::join(x, s, y[k] == label, w, sheet::slope(f, y, g, k, cpos, cneg));
+        let w = sheet::alpha_in(f, y, g.nu, n, k, costs);
+        s = rho::join(x, s, y[k] == label, w, sheet::slope(f, y, g, k, costs));
     }
     s
 }
 
 // rho, and with the nu rule its companion r.
-pub fn level(f: &[f64], y: &[u8], m: &[u8], g: Given, cpos: f64, cneg: f64) -> Level
+pub fn level(f: &[f64], y: &[u8], m: &[u8], g: Given, costs: Costs) -> Level
     requires { SheetReady g m.now y.now f.now }
-    ensures { result ≡ level_in g m.now y.now (ceilings_of cpos cneg) (read_in g.nu g.n f.now) }
+    ensures { result ≡ level_in g m.now y.now (ceilings_of costs.pos costs.neg) (read_in g.nu g.n f.now) }
 {
     if g.nu {
         let x = solver::is_repaired(g);
-        let a = rho::settle(share_nu(f, y, m, g, cpos, cneg, 1, x));
-        let b = rho::settle(share_nu(f, y, m, g, cpos, cneg, 0, x));
+        let a = rho::settle(share_nu(f, y, m, g, costs, 1, x));
+        let b = rho::settle(share_nu(f, y, m, g, costs, 0, x));
         return Level {
             rho: (a - b) / 2.0,
             r: (a + b) / 2.0,
         };
     }
     Level {
-        rho: rho::settle(share_c(f, y, m, g, cpos, cneg)),
+        rho: rho::settle(share_c(f, y, m, g, costs)),
         r: 0.0,
     }
 }
 
 // Half the sum of weight·(gradient + linear term), over all samples in order.
-pub fn objective(f: &[f64], y: &[u8], m: &[u8], g: Given, p: f64, cpos: f64, cneg: f64) -> f64
+pub fn objective(f: &[f64], y: &[u8], m: &[u8], g: Given, p: f64, costs: Costs) -> f64
     requires { SheetReady g m.now y.now f.now }
-    ensures { result ≡ objective_in g m.now y.now (ceilings_of cpos cneg) (read_in g.nu g.n f.now) (λ k. p) }
+    ensures { result ≡ objective_in g m.now y.now (ceilings_of costs.pos costs.neg) (read_in g.nu g.n f.now) (λ k. p) }
 {
     let n = g.n;
     let mut v = 0.0;
     for k in 0..n {
-        v = v + f[n + k] * (sheet::slope(f, y, g, k, cpos, cneg) + p);
+        v = v + f[n + k] * (sheet::slope(f, y, g, k, costs) + p);
     }
     v / 2.0
 }

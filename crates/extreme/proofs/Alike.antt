@@ -4,10 +4,10 @@ use mathlib.Core.Bool.{Bool, true, false, ◌&&◌, cond}
 use mathlib.Core.Path.{◌≡◌, refl, sym, ap, ◌∙◌}
 use native.Mathlib.Omega.{arith}
 use lib.Ieee.{Float}
+use Rattle.std.proofs.lemmas.Option.{none-some, same_Some}
+use Rattle.std.specs.Prelude.{Option, Some}
 use Rattle.extreme.specs.Best.{held, weighed, best}
 use Rattle.extreme.specs.declared.Extreme.{Extreme}
-use Rattle.extreme.specs.declared.Found.{Found}
-use Rattle.extreme.specs.declared.Found.TheVariants.{At, Nobody}
 
 module _ (takes : Float → Float → Bool) (start : Float) where
   -- each candidate weighs the same, whatever the best before it
@@ -20,27 +20,21 @@ module _ (takes : Float → Float → Bool) (start : Float) where
       ap (weighed takes (may a) a (value a)) (best_alike may may' value value' a (λ k l. h k (omega arith)))
       ∙ h a (omega arith) (best takes start may' value' a)
 
-  abbrev Eligible : (ℕ → Bool) → ℕ → Found → Type 0
-  Eligible may a h = (i : ℕ) → h ≡ At i → (i < a) × (may i ≡ true)
-
-  at_same : (i j : ℕ) → At i ≡ At j → i ≡ j
-  at_same i j e = cc
+  abbrev Eligible : (ℕ → Bool) → ℕ → Option ℕ → Type 0
+  Eligible may a h = (i : ℕ) → h ≡ Some i → (i < a) × (may i ≡ true)
 
   -- the holder was eligible
-  pub best_eligible : (may : ℕ → Bool) (value : ℕ → Float) (a i : ℕ) → (best takes start may value a).holder ≡ At i → (i < a) × (may i ≡ true)
+  pub best_eligible : (may : ℕ → Bool) (value : ℕ → Float) (a i : ℕ) → (best takes start may value a).holder ≡ Some i → (i < a) × (may i ≡ true)
   unfolding best
-  best_eligible may value zero i e = absurd (nobody_at i e)
-    where
-      nobody_at : (i : ℕ) → Nobody ≡ At i → ⊥
-      nobody_at i q = let z : ◌≡◌ {A = ℕ} 0 1 = cc in omega arith
+  best_eligible may value zero i e = absurd (none-some i e)
   best_eligible may value (suc a) i e = go (may a) refl (takes b.value (value a)) (best_eligible may value a i) e
     where
       b : Extreme
       b = best takes start may value a
 
-      go : (x : Bool) → may a ≡ x → (y : Bool) → (b.holder ≡ At i → (i < a) × (may i ≡ true)) → (cond (x && y) (held (value a) a) b).holder ≡ At i
+      go : (x : Bool) → may a ≡ x → (y : Bool) → (b.holder ≡ Some i → (i < a) × (may i ≡ true)) → (cond (x && y) (held (value a) a) b).holder ≡ Some i
           → (i < suc a) × (may i ≡ true)
-      go true q true r z = let w = at_same a i z in (omega arith, rw (sym w) q)
+      go true q true r z = let w = same_Some a i z in (omega arith, rw (sym w) q)
       go true q false r z = let t = r z in (omega (arith, t.0), t.1)
       go false q y r z = let t = r z in (omega (arith, t.0), t.1)
 

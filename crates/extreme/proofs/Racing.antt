@@ -6,13 +6,12 @@ use native.Mathlib.Omega.{arith}
 use borrow.Author.Tests.{lt-ltb, le-ltb}
 use lib.Dec.{T, T_not, ltb, ltb→lt}
 use lib.Ieee.{Float, inf, is_nan}
+use Rattle.std.specs.Prelude.{Option, Some, None}
 use Rattle.rounding.specs.Units.{NotNan}
 use Rattle.rounding.proofs.Order.{holds, fails, le_real, lt→le, le_refl, le_trans, not_lt}
 use Rattle.extreme.specs.Best.{nobody, held, at_most, weighed, Below}
 use Rattle.extreme.specs.Racing.{racing, below, raced, found_in, place_in, race_of}
 use Rattle.extreme.specs.declared.Extreme.{Extreme}
-use Rattle.extreme.specs.declared.Found.{Found}
-use Rattle.extreme.specs.declared.Found.TheVariants.{At, Nobody}
 use Rattle.extreme.specs.declared.Race.{Race}
 
 -- a test, its strict half, and where it starts
@@ -68,7 +67,7 @@ module _ {strict takes : Float → Float → Bool} {start : Float} (h : Halves s
   pub tracks_start : (a : ℕ) → Tracks a (racing start a) (nobody start)
   tracks_start a = record { value = (h.itself start h.real, h.itself start h.real); holder = go (ltb a a) refl }
     where
-      go : (b : Bool) → ltb a a ≡ b → Nobody ≡ cond b (At a) Nobody
+      go : (b : Bool) → ltb a a ≡ b → None ≡ cond b (Some a) None
       go true p = let z : a < a = ltb→lt a a ((holds (ltb a a)).1 p) in absurd (omega arith)
       go false p = refl
 
@@ -94,6 +93,6 @@ race_weighed takes a k v may e = go (may && takes e.value v)
     go true = refl
     go false = refl
 
-pub race_found : (a : ℕ) (h : Found) → Below a h → h ≡ found_in a (place_in a h)
-race_found a (At i) b = rw (lt-ltb i a (b i refl))
-race_found a Nobody b = rw (le-ltb a a (omega arith))
+pub race_found : (a : ℕ) (h : Option ℕ) → Below a h → h ≡ found_in a (place_in a h)
+race_found a (Some i) b = rw (lt-ltb i a (b i refl))
+race_found a None b = rw (le-ltb a a (omega arith))

@@ -6,22 +6,21 @@ use mathlib.Core.Path.{◌≡◌, refl, sym, subst, ap₂, ◌∙◌}
 use native.Mathlib.Omega.{arith}
 use lib.Dec.{T, T_not}
 use lib.Ieee.{Float, inf}
+use Rattle.std.specs.Prelude.{Option, Some, None}
 use Rattle.extreme.specs.Best.{held, weighed, best, Below}
 use Rattle.extreme.specs.Rule.{Top}
 use Rattle.extreme.specs.declared.Extreme.{Extreme}
-use Rattle.extreme.specs.declared.Found.{Found}
-use Rattle.extreme.specs.declared.Found.TheVariants.{At, Nobody}
 
 -- an extreme by its value and holder
-pub extreme_is : (e : Extreme) (v : Float) (h : Found) → e.value ≡ v → e.holder ≡ h → e ≡ record { value = v; holder = h }
-extreme_is e v h = ap₂ (λ (x : Float) (y : Found). record { value = x; holder = y })
+pub extreme_is : (e : Extreme) (v : Float) (h : Option ℕ) → e.value ≡ v → e.holder ≡ h → e ≡ record { value = v; holder = h }
+extreme_is e v h = ap₂ (λ (x : Float) (y : Option ℕ). record { value = x; holder = y })
 
 -- the rule of an extreme e: what its holder satisfies, and exactly when it has none
-pub record Rule (start : Float) (value : ℕ → Float) (Holds : ℕ → Type 0) (None : Type 0) (e : Extreme) : Type 0 where
-  pub holds : (i : ℕ) → e.holder ≡ At i → Holds i
-  pub value_is : (i : ℕ) → e.holder ≡ At i → e.value ≡ value i
-  pub start_is : e.holder ≡ Nobody → e.value ≡ start
-  pub nobody : (e.holder ≡ Nobody) ↔ None
+pub record Rule (start : Float) (value : ℕ → Float) (Holds : ℕ → Type 0) (Absent : Type 0) (e : Extreme) : Type 0 where
+  pub holds : (i : ℕ) → e.holder ≡ Some i → Holds i
+  pub value_is : (i : ℕ) → e.holder ≡ Some i → e.value ≡ value i
+  pub start_is : e.holder ≡ None → e.value ≡ start
+  pub nobody : (e.holder ≡ None) ↔ Absent
 
 -- the same in other words
 pub reworded : {start : Float} {value : ℕ → Float} {H H' : ℕ → Type 0} {N N' : Type 0} {e : Extreme}
@@ -36,15 +35,15 @@ reworded h n r =
 
 -- an extreme in words: its holder is the one that holds, and its value is his, or the start's where nobody does
 pub record Words (start : Float) (value : ℕ → Float) (Holds : ℕ → Type 0) (e : Extreme) : Type 0 where
-  pub named : (i : ℕ) → (e.holder ≡ At i) ↔ Holds i
+  pub named : (i : ℕ) → (e.holder ≡ Some i) ↔ Holds i
   pub one : (i j : ℕ) → Holds i → Holds j → i ≡ j
-  pub nobody : (e.holder ≡ Nobody) ↔ ((i : ℕ) → Holds i → ⊥)
-  pub value_is : (i : ℕ) → e.holder ≡ At i → e.value ≡ value i
-  pub start_is : e.holder ≡ Nobody → e.value ≡ start
+  pub nobody : (e.holder ≡ None) ↔ ((i : ℕ) → Holds i → ⊥)
+  pub value_is : (i : ℕ) → e.holder ≡ Some i → e.value ≡ value i
+  pub start_is : e.holder ≡ None → e.value ≡ start
 
 -- where one holds at the most, and nobody only where there is none
-pub in_words : {start : Float} {value : ℕ → Float} {Holds : ℕ → Type 0} {None : Type 0} {e : Extreme} → Rule start value Holds None e
-    → ((i j : ℕ) → Holds i → Holds j → i ≡ j) → ((i : ℕ) → Holds i → None → ⊥) → Words start value Holds e
+pub in_words : {start : Float} {value : ℕ → Float} {Holds : ℕ → Type 0} {Absent : Type 0} {e : Extreme} → Rule start value Holds Absent e
+    → ((i j : ℕ) → Holds i → Holds j → i ≡ j) → ((i : ℕ) → Holds i → Absent → ⊥) → Words start value Holds e
 in_words {Holds = Holds} {e = e} r one some =
     record {
       named = λ i. (r.holds i, held i e.holder refl);
@@ -54,22 +53,22 @@ in_words {Holds = Holds} {e = e} r one some =
       start_is = r.start_is;
     }
   where
-    held : (i : ℕ) (f : Found) → e.holder ≡ f → Holds i → e.holder ≡ At i
-    held i (At k) q h = rw (one i k h (r.holds k q)) q
-    held i Nobody q h = absurd (some i h (r.nobody.0 q))
+    held : (i : ℕ) (f : Option ℕ) → e.holder ≡ f → Holds i → e.holder ≡ Some i
+    held i (Some k) q h = rw (one i k h (r.holds k q)) q
+    held i None q h = absurd (some i h (r.nobody.0 q))
 
-    none : (f : Found) → e.holder ≡ f → ((i : ℕ) → Holds i → ⊥) → e.holder ≡ Nobody
-    none (At k) q z = absurd (z k (r.holds k q))
-    none Nobody q z = q
+    none : (f : Option ℕ) → e.holder ≡ f → ((i : ℕ) → Holds i → ⊥) → e.holder ≡ None
+    none (Some k) q z = absurd (z k (r.holds k q))
+    none None q z = q
 
 module _ {value : ℕ → Float} {Holds : ℕ → Type 0} {e : Extreme} (w : Words (inf true) value Holds e) where
   -- its value is the extreme of the words
   pub top_of : Top Holds value e.value
   top_of = go e.holder refl
     where
-      go : (f : Found) → e.holder ≡ f → Top Holds value e.value
-      go (At i) q = inl (i, (w.named i).0 q, w.value_is i q)
-      go Nobody q = inr (w.nobody.0 q, w.start_is q)
+      go : (f : Option ℕ) → e.holder ≡ f → Top Holds value e.value
+      go (Some i) q = inl (i, (w.named i).0 q, w.value_is i q)
+      go None q = inr (w.nobody.0 q, w.start_is q)
 
   -- and no other is
   pub top_is : (x : Float) → Top Holds value x → e.value ≡ x
@@ -96,9 +95,9 @@ module _ (takes : Float → Float → Bool) (start : Float) (may : ℕ → Bool)
   abbrev pub Shut : ℕ → Type 0
   Shut m = (k : ℕ) → k < m → T (may k) → T (not (takes start (value k)))
 
-  abbrev Ruled : ℕ → Float → Found → Type 0
-  Ruled m v Nobody = (v ≡ start) × Shut m
-  Ruled m v (At i) = (v ≡ value i) × Holds m i
+  abbrev Ruled : ℕ → Float → Option ℕ → Type 0
+  Ruled m v None = (v ≡ start) × Shut m
+  Ruled m v (Some i) = (v ≡ value i) × Holds m i
 
 pub side : (k i : ℕ) → (k ≡ i) ⊎ ((k < i) ⊎ (i < k))
 side zero zero = inl refl
@@ -114,8 +113,8 @@ upto : (P : ℕ → Type 0) (m : ℕ) → ((k : ℕ) → k < m → P k) → P m 
 upto P m all here = around P m (suc m) all here (λ k h l. absurd (omega arith))
 
 module _ (takes : Float → Float → Bool) (ranks : Ranks takes) (start : Float) (may : ℕ → Bool) (value : ℕ → Float) where
-  taken : (m : ℕ) (v : Float) (h : Found) → T (may m) → T (takes v (value m)) → Ruled takes start may value m v h → Ruled takes start may value (suc m) (value m) (At m)
-  taken m v Nobody t c r = (
+  taken : (m : ℕ) (v : Float) (h : Option ℕ) → T (may m) → T (takes v (value m)) → Ruled takes start may value m v h → Ruled takes start may value (suc m) (value m) (Some m)
+  taken m v None t c r = (
     refl,
     record {
       inside = omega arith;
@@ -125,7 +124,7 @@ module _ (takes : Float → Float → Bool) (ranks : Ranks takes) (start : Float
       later = λ k h l. absurd (omega arith);
     },
   )
-  taken m v (At i) t c r =
+  taken m v (Some i) t c r =
       let g = r.1 in
       let w : T (takes (value i) (value m)) = rw r.0 at c in (
         refl,
@@ -142,9 +141,9 @@ module _ (takes : Float → Float → Bool) (ranks : Ranks takes) (start : Float
         },
       )
 
-  kept : (m : ℕ) (v : Float) (h : Found) → (T (may m) → T (not (takes v (value m)))) → Ruled takes start may value m v h → Ruled takes start may value (suc m) v h
-  kept m v Nobody c r = (r.0, upto (λ k. T (may k) → T (not (takes start (value k)))) m r.1 (λ u. rw r.0 at (c u)))
-  kept m v (At i) c r =
+  kept : (m : ℕ) (v : Float) (h : Option ℕ) → (T (may m) → T (not (takes v (value m)))) → Ruled takes start may value m v h → Ruled takes start may value (suc m) v h
+  kept m v None c r = (r.0, upto (λ k. T (may k) → T (not (takes start (value k)))) m r.1 (λ u. rw r.0 at (c u)))
+  kept m v (Some i) c r =
       let g = r.1 in
       let l = g.inside in (
         r.0,
@@ -172,17 +171,17 @@ module _ (takes : Float → Float → Bool) (ranks : Ranks takes) (start : Float
   pub best_rule : (m : ℕ) → Rule start value (Holds takes start may value m) (Shut takes start may value m) (best takes start may value m)
   best_rule m =
       let e = best takes start may value m in
-      let at : (h : Found) → e.holder ≡ h → Ruled takes start may value m e.value h = λ h q. subst (Ruled takes start may value m e.value) q (ruled m) in
+      let at : (h : Option ℕ) → e.holder ≡ h → Ruled takes start may value m e.value h = λ h q. subst (Ruled takes start may value m e.value) q (ruled m) in
       record {
-        holds = λ i q. (at (At i) q).1;
-        value_is = λ i q. (at (At i) q).0;
-        start_is = λ q. (at Nobody q).0;
-        nobody = (λ q. (at Nobody q).1, λ n. none n e.value e.holder (ruled m));
+        holds = λ i q. (at (Some i) q).1;
+        value_is = λ i q. (at (Some i) q).0;
+        start_is = λ q. (at None q).0;
+        nobody = (λ q. (at None q).1, λ n. none n e.value e.holder (ruled m));
       }
     where
-      none : Shut takes start may value m → (v : Float) (h : Found) → Ruled takes start may value m v h → h ≡ Nobody
-      none n v Nobody r = refl
-      none n v (At i) r = absurd (T_not (takes start (value i)) (n i r.1.inside r.1.eligible) r.1.enters)
+      none : Shut takes start may value m → (v : Float) (h : Option ℕ) → Ruled takes start may value m v h → h ≡ None
+      none n v None r = refl
+      none n v (Some i) r = absurd (T_not (takes start (value i)) (n i r.1.inside r.1.eligible) r.1.enters)
 
   pub best_below : (m : ℕ) → Below m (best takes start may value m).holder
   best_below m i q = ((best_rule m).holds i q).inside

@@ -1,15 +1,13 @@
 -- The best of the first candidates, and who holds it.
-use Rattle.std.specs.Prelude.{ℕ, zero, suc, ◌<◌, Bool, ◌&&◌, cond, ◌≡◌, Float}
+use Rattle.std.specs.Prelude.{ℕ, zero, suc, ◌<◌, Bool, ◌&&◌, cond, ◌≡◌, Float, Option, Some, None}
 use Rattle.std.specs.Float.Ieee.{lt, le}
 use Rattle.extreme.specs.declared.Extreme.{Extreme}
-use Rattle.extreme.specs.declared.Found.{Found}
-use Rattle.extreme.specs.declared.Found.TheVariants.{At, Nobody}
 
 abbrev pub nobody : Float → Extreme
-nobody start = record { value = start; holder = Nobody }
+nobody start = record { value = start; holder = None }
 
 abbrev pub held : Float → ℕ → Extreme
-held v k = record { value = v; holder = At k }
+held v k = record { value = v; holder = Some k }
 
 -- whether v takes the place of b. Greatest, the last of equals:
 abbrev pub at_least : Float → Float → Bool
@@ -33,5 +31,5 @@ best takes start may value zero = nobody start
 best takes start may value (suc k) = weighed takes (may k) k (value k) (best takes start may value k)
 
 -- a holder is below m
-abbrev pub Below : ℕ → Found → Type 0
-Below m h = (i : ℕ) → h ≡ At i → i < m
+abbrev pub Below : ℕ → Option ℕ → Type 0
+Below m h = (i : ℕ) → h ≡ Some i → i < m

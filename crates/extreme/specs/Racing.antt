@@ -1,9 +1,7 @@
 -- A running extreme without its holder's word for it: a faster form of `best`, proved to lead to it (proofs/Racing.antt).
-use Rattle.std.specs.Prelude.{ℕ, Bool, cond, ltb, Float}
+use Rattle.std.specs.Prelude.{ℕ, Bool, cond, ltb, Float, Option, Some, None}
 use Rattle.std.specs.Float.Ieee.{lt}
 use Rattle.extreme.specs.declared.Extreme.{Extreme}
-use Rattle.extreme.specs.declared.Found.{Found}
-use Rattle.extreme.specs.declared.Found.TheVariants.{At, Nobody}
 use Rattle.extreme.specs.declared.Race.{Race}
 
 abbrev pub racing : Float → ℕ → Race
@@ -18,13 +16,13 @@ unfoldable pub raced : (Float → Float → Bool) → (Float → Float → Bool)
 raced strict takes k v r = racing (cond (strict r.value v) v r.value) (cond (takes r.value v) k r.at)
 
 -- the holder, where a place of a or above stands for nobody
-abbrev pub found_in : ℕ → ℕ → Found
-found_in a i = cond (ltb i a) (At i) Nobody
+abbrev pub found_in : ℕ → ℕ → Option ℕ
+found_in a i = cond (ltb i a) (Some i) None
 
 -- the other way round: an extreme of candidates below a, as a race
-abbrev pub place_in : ℕ → Found → ℕ
-place_in a (At i) = i
-place_in a Nobody = a
+abbrev pub place_in : ℕ → Option ℕ → ℕ
+place_in a (Some i) = i
+place_in a None = a
 
 abbrev pub race_of : ℕ → Extreme → Race
 race_of a e = racing e.value (place_in a e.holder)

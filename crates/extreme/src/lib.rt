@@ -2,49 +2,39 @@
 #![tactic(auto)]
 
 ghost use Rattle.std.specs.Prelude.{cond, ◌≡◌};
-ghost use Rattle.extreme.specs.Best.{weighed, at_least, above, at_most};
+ghost use Rattle.extreme.specs.Best.{nobody, held, weighed, at_least, above, at_most};
 ghost use Rattle.extreme.specs.Racing.{below, racing, raced};
-
-#[derive(Clone, Copy)]
-pub enum Found {
-    At(usize),
-    Nobody,
-}
 
 #[derive(Clone, Copy)]
 pub struct Extreme {
     pub value: f64,
-    pub holder: Found,
+    pub holder: Option<usize>,
 }
 
-// The same without the holder's word for it: which place stands for nobody, its owner says.
+// The same without an Option: which place stands for nobody, its owner says. An Option costs the loop over the second
+// a dozen instructions for each position (docs/DECISIONS.md, 23).
 #[derive(Clone, Copy)]
 pub struct Race {
     pub value: f64,
     pub at: usize,
 }
 
-// What a rule for the pair answers.
-#[derive(Clone, Copy)]
-pub enum Choice {
-    Pair(usize, usize),
-    Optimal,
+// Nobody holds it yet.
+pub fn nobody(start: f64) -> Extreme
+    ensures { result ≡ nobody start }
+{
+    Extreme {
+        value: start,
+        holder: None,
+    }
 }
 
-// The same extreme. A plain copy would carry the padding of its enum through a loop, which is slow.
-pub fn anew(b: Extreme) -> Extreme
-    ensures { result ≡ b }
+fn held(v: f64, k: usize) -> Extreme
+    ensures { result ≡ held v k }
 {
-    let h = b.holder;
-    match h {
-        Found::At(i) => Extreme {
-            value: b.value,
-            holder: Found::At(i),
-        },
-        Found::Nobody => Extreme {
-            value: b.value,
-            holder: Found::Nobody,
-        },
+    Extreme {
+        value: v,
+        holder: Some(k),
     }
 }
 
@@ -52,49 +42,31 @@ pub fn anew(b: Extreme) -> Extreme
 pub fn raised(b: Extreme, may: bool, k: usize, v: f64) -> Extreme
     ensures { result ≡ weighed at_least may k v b }
 {
-    if may & (v >= b.value) {
-        Extreme {
-            value: v,
-            holder: Found::At(k),
-        }
-    } else {
-        anew(b)
-    }
+    either(may & (v >= b.value), held(v, k), b)
 }
 
 // The greatest, the first of equals.
 pub fn lifted(b: Extreme, may: bool, k: usize, v: f64) -> Extreme
     ensures { result ≡ weighed above may k v b }
 {
-    if may & (v > b.value) {
-        Extreme {
-            value: v,
-            holder: Found::At(k),
-        }
-    } else {
-        anew(b)
-    }
+    either(may & (v > b.value), held(v, k), b)
 }
 
-pub fn value_of(better: bool, v: f64, b: f64) -> f64
-    ensures { result ≡ cond better v b }
+// One of two. A contract knows it after the call, where an `if` in its place would leave two cases.
+pub fn either<T: Copy>(first: bool, a: T, b: T) -> T
+    ensures { result ≡ cond first a b }
 {
-    if better { v } else { b }
-}
-
-pub fn place_of(better: bool, k: usize, at: usize) -> usize
-    ensures { result ≡ cond better k at }
-{
-    if better { k } else { at }
+    if first { a } else { b }
 }
 
 // The least, the last of equals, in two selections.
+#[tactic(auto, unfolding(crate::specs::Racing::raced))]
 pub fn behind(r: Race, k: usize, v: f64) -> Race
     ensures { result ≡ raced below at_most k v r }
 {
     Race {
-        value: value_of(v < r.value, v, r.value),
-        at: place_of(v <= r.value, k, r.at),
+        value: either(v < r.value, v, r.value),
+        at: either(v <= r.value, k, r.at),
     }
 }
 
@@ -103,7 +75,7 @@ pub fn taken(r: Race, takes: bool, k: usize, v: f64) -> Race
     ensures { result ≡ racing (cond takes v r.value) (cond takes k r.at) }
 {
     Race {
-        value: value_of(takes, v, r.value),
-        at: place_of(takes, k, r.at),
+        value: either(takes, v, r.value),
+        at: either(takes, k, r.at),
     }
 }

@@ -9,10 +9,11 @@ ghost use Rattle.fits.specs.Starts.{nothing, evenly, costs_to};
 ghost use Rattle.judge.specs.Sizes.{Room};
 ghost use Rattle.kernel.specs.Matrix.{Matrix};
 
-use answer::{Finish, Outcome};
-use judge::Judged;
+use answer::{Answer, Finish};
+use classification::Terms;
+use judge::Refusal;
 use kernel::Kind;
-use tuning::Tuning;
+use tuning::{Settings, Tuning};
 
 fn started(
     n: usize,
@@ -20,82 +21,83 @@ fn started(
     l: &[u8],
     cpos: f64,
     cneg: f64,
-    eps: f64,
-    shrinking: bool,
-    budget: u64,
+    settings: Settings,
     t: Tuning,
     cr: &mut [f64],
     h: &mut [f64],
     f: &mut [f64],
     u: &mut [u64],
     y: &mut [u8],
-) -> Outcome
-    requires { (Room n (length m.now) (length cr.old) (length h.old) (length f.old) (length u.old) (length y.old)) × (Matrix n m.now) × (budget ≤ 10000000) × (n ≤ length l.now) }
+) -> Result<Answer, Refusal>
+    requires { (Room n (length m.now) (length cr.old) (length h.old) (length f.old) (length u.old) (length y.old)) × (Matrix n m.now) × (settings.budget ≤ 10000000) × (n ≤ length l.now) }
     ensures { ◌≡◌ {A = Whole} (whole result cr.new h.new f.new u.new y.new)
-        (fitted (given_by t n Kind.TwoClass eps shrinking false) Finish.Signed m.now l.now (costs_to cpos cneg l.now nothing n) nothing (evenly minus_one n) budget (lent cr.old h.old f.old u.old y.old)) }
+        (fitted (given_by t n Kind.TwoClass settings.eps settings.shrinking false) Finish.Signed m.now l.now (costs_to cpos cneg l.now nothing n) nothing (evenly minus_one n) settings.budget (lent cr.old h.old f.old u.old y.old)) }
 {
+    let Settings {
+        eps,
+        shrinking,
+        budget,
+    } = settings;
     let mut c = [0.0f64; 512];
     let a = [0.0f64; 512];
     let mut p = [0.0f64; 512];
     fits::ceilings_c(&mut c, l, cpos, cneg, n);
-    lists::fill_floats(&mut p, -1.0, n);
+    lists::fill(&mut p, -1.0, n);
     let g = classification::given(t, n, Kind::TwoClass, eps, shrinking, false);
-    classification::fit(cr, h, f, u, y, m, l, &c, &a, &p, g, Finish::Signed, budget)
+    let terms = Terms {
+        ceilings: &c,
+        alphas: &a,
+        linear: &p,
+    };
+    classification::fit(cr, h, f, u, y, m, l, terms, g, Finish::Signed, budget)
 }
 
 // After refusals 1 and 2.
+#[tactic(auto, using(classification::proofs::Laws::usable_c, judge::proofs::Accepted::floor_fine), unfolding(classification::specs::Entries::fit_c_tuned_sized, classification::specs::Entries::decided, judge::specs::Judge::and_then))]
 pub fn sized(
     n: usize,
     m: &[u8],
     l: &[u8],
     cpos: f64,
     cneg: f64,
-    eps: f64,
-    shrinking: bool,
-    budget: u64,
+    settings: Settings,
     t: Tuning,
     cr: &mut [f64],
     h: &mut [f64],
     f: &mut [f64],
     u: &mut [u64],
     y: &mut [u8],
-) -> Outcome
+) -> Result<Answer, Refusal>
     requires { (Room n (length m.now) (length cr.old) (length h.old) (length f.old) (length u.old) (length y.old)) × (n ≤ length l.now) }
     ensures { ◌≡◌ {A = Whole} (whole result cr.new h.new f.new u.new y.new)
-        (fit_c_tuned_sized t n m.now l.now cpos cneg eps shrinking budget (lent cr.old h.old f.old u.old y.old)) }
+        (fit_c_tuned_sized t n m.now l.now cpos cneg settings.eps settings.shrinking settings.budget (lent cr.old h.old f.old u.old y.old)) }
 {
-    let j10 = verdict::c_judged(n, m, l, cpos, cneg, eps, budget);
-    let j = judge::floor_judged(j10, t.floor);
-    match j {
-        Judged::Fine => started(
-            n, m, l, cpos, cneg, eps, shrinking, budget, t, cr, h, f, u, y,
-        ),
-        Judged::Bad(number, index) => Outcome::Refused(number, index),
-    }
+    verdict::c_judged(n, m, l, cpos, cneg, settings.eps, settings.budget)?;
+    judge::floor_judged(t.floor)?;
+    started(n, m, l, cpos, cneg, settings, t, cr, h, f, u, y)
 }
 
 // A ceiling for each label.
+#[tactic(auto, using(judge::proofs::Lengths::inputs_of, judge::proofs::Lengths::room_of, judge::proofs::Lengths::long_enough), unfolding(classification::specs::Entries::fit_c_tuned, classification::specs::Entries::decided))]
 pub fn fit_c_tuned(
     n: usize,
     m: &[u8],
     l: &[u8],
     cpos: f64,
     cneg: f64,
-    eps: f64,
-    shrinking: bool,
-    budget: u64,
+    settings: Settings,
     t: Tuning,
     cr: &mut [f64],
     h: &mut [f64],
     f: &mut [f64],
     u: &mut [u64],
     y: &mut [u8],
-) -> Outcome
+) -> Result<Answer, Refusal>
     ensures { ◌≡◌ {A = Whole} (whole result cr.new h.new f.new u.new y.new)
-        (fit_c_tuned t n m.now l.now cpos cneg eps shrinking budget (lent cr.old h.old f.old u.old y.old)) }
+        (fit_c_tuned t n m.now l.now cpos cneg settings.eps settings.shrinking settings.budget (lent cr.old h.old f.old u.old y.old)) }
 {
     let inputs = l.len() == n;
-    let s = judge::sized(
+    judge::sized(
         n,
         inputs,
         m.len(),
@@ -104,13 +106,8 @@ pub fn fit_c_tuned(
         f.len(),
         u.len(),
         y.len(),
-    );
-    if s == 0 {
-        return sized(
-            n, m, l, cpos, cneg, eps, shrinking, budget, t, cr, h, f, u, y,
-        );
-    }
-    Outcome::Refused(s, 0)
+    )?;
+    sized(n, m, l, cpos, cneg, settings, t, cr, h, f, u, y)
 }
 
 // The same with the floor of the published Rust.
@@ -120,20 +117,16 @@ pub fn fit_c(
     l: &[u8],
     cpos: f64,
     cneg: f64,
-    eps: f64,
-    shrinking: bool,
-    budget: u64,
+    settings: Settings,
     cr: &mut [f64],
     h: &mut [f64],
     f: &mut [f64],
     u: &mut [u64],
     y: &mut [u8],
-) -> Outcome
+) -> Result<Answer, Refusal>
     ensures { ◌≡◌ {A = Whole} (whole result cr.new h.new f.new u.new y.new)
-        (fit_c_of n m.now l.now cpos cneg eps shrinking budget (lent cr.old h.old f.old u.old y.old)) }
+        (fit_c_of n m.now l.now cpos cneg settings.eps settings.shrinking settings.budget (lent cr.old h.old f.old u.old y.old)) }
 {
     let t = tuning::plain();
-    fit_c_tuned(
-        n, m, l, cpos, cneg, eps, shrinking, budget, t, cr, h, f, u, y,
-    )
+    fit_c_tuned(n, m, l, cpos, cneg, settings, t, cr, h, f, u, y)
 }

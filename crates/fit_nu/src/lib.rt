@@ -9,88 +9,92 @@ ghost use Rattle.fits.specs.Starts.{nothing, evenly, half, shared_to};
 ghost use Rattle.judge.specs.Sizes.{Room};
 ghost use Rattle.kernel.specs.Matrix.{Matrix};
 
-use answer::{Finish, Outcome};
-use judge::Judged;
+use answer::{Answer, Finish};
+use classification::Terms;
+use judge::Refusal;
 use kernel::Kind;
-use tuning::Tuning;
+use tuning::{Settings, Tuning};
 
 fn started(
     n: usize,
     m: &[u8],
     l: &[u8],
     nu: f64,
-    eps: f64,
-    shrinking: bool,
-    budget: u64,
+    settings: Settings,
     t: Tuning,
     cr: &mut [f64],
     h: &mut [f64],
     f: &mut [f64],
     u: &mut [u64],
     y: &mut [u8],
-) -> Outcome
-    requires { (Room n (length m.now) (length cr.old) (length h.old) (length f.old) (length u.old) (length y.old)) × (Matrix n m.now) × (budget ≤ 10000000) × (n ≤ length l.now) }
+) -> Result<Answer, Refusal>
+    requires { (Room n (length m.now) (length cr.old) (length h.old) (length f.old) (length u.old) (length y.old)) × (Matrix n m.now) × (settings.budget ≤ 10000000) × (n ≤ length l.now) }
     ensures { ◌≡◌ {A = Whole} (whole result cr.new h.new f.new u.new y.new)
-        (fitted (given_by t n Kind.TwoClass eps shrinking true) Finish.Scaled m.now l.now (evenly one n) (shared_to (half nu n) l.now nothing n) nothing budget (lent cr.old h.old f.old u.old y.old)) }
+        (fitted (given_by t n Kind.TwoClass settings.eps settings.shrinking true) Finish.Scaled m.now l.now (evenly one n) (shared_to (half nu n) l.now nothing n) nothing settings.budget (lent cr.old h.old f.old u.old y.old)) }
 {
+    let Settings {
+        eps,
+        shrinking,
+        budget,
+    } = settings;
     let mut c = [0.0f64; 512];
     let mut a = [0.0f64; 512];
     let p = [0.0f64; 512];
-    lists::fill_floats(&mut c, 1.0, n);
+    lists::fill(&mut c, 1.0, n);
     fits::alphas_nu(&mut a, l, nu, n);
     let g = classification::given(t, n, Kind::TwoClass, eps, shrinking, true);
-    classification::fit(cr, h, f, u, y, m, l, &c, &a, &p, g, Finish::Scaled, budget)
+    let terms = Terms {
+        ceilings: &c,
+        alphas: &a,
+        linear: &p,
+    };
+    classification::fit(cr, h, f, u, y, m, l, terms, g, Finish::Scaled, budget)
 }
 
 // After refusals 1 and 2.
+#[tactic(auto, using(classification::proofs::Laws::usable_nu, judge::proofs::Accepted::floor_fine), unfolding(classification::specs::Entries::fit_nu_tuned_sized, classification::specs::Entries::decided, judge::specs::Judge::and_then))]
 pub fn sized(
     n: usize,
     m: &[u8],
     l: &[u8],
     nu: f64,
-    eps: f64,
-    shrinking: bool,
-    budget: u64,
+    settings: Settings,
     t: Tuning,
     cr: &mut [f64],
     h: &mut [f64],
     f: &mut [f64],
     u: &mut [u64],
     y: &mut [u8],
-) -> Outcome
+) -> Result<Answer, Refusal>
     requires { (Room n (length m.now) (length cr.old) (length h.old) (length f.old) (length u.old) (length y.old)) × (n ≤ length l.now) }
     ensures { ◌≡◌ {A = Whole} (whole result cr.new h.new f.new u.new y.new)
-        (fit_nu_tuned_sized t n m.now l.now nu eps shrinking budget (lent cr.old h.old f.old u.old y.old)) }
+        (fit_nu_tuned_sized t n m.now l.now nu settings.eps settings.shrinking settings.budget (lent cr.old h.old f.old u.old y.old)) }
 {
-    let j10 = verdict::nu_judged(n, m, l, nu, eps, budget);
-    let j = judge::floor_judged(j10, t.floor);
-    match j {
-        Judged::Fine => started(n, m, l, nu, eps, shrinking, budget, t, cr, h, f, u, y),
-        Judged::Bad(number, index) => Outcome::Refused(number, index),
-    }
+    verdict::nu_judged(n, m, l, nu, settings.eps, settings.budget)?;
+    judge::floor_judged(t.floor)?;
+    started(n, m, l, nu, settings, t, cr, h, f, u, y)
 }
 
 // The nu rule, with ceilings 1.
+#[tactic(auto, using(judge::proofs::Lengths::inputs_of, judge::proofs::Lengths::room_of, judge::proofs::Lengths::long_enough), unfolding(classification::specs::Entries::fit_nu_tuned, classification::specs::Entries::decided))]
 pub fn fit_nu_tuned(
     n: usize,
     m: &[u8],
     l: &[u8],
     nu: f64,
-    eps: f64,
-    shrinking: bool,
-    budget: u64,
+    settings: Settings,
     t: Tuning,
     cr: &mut [f64],
     h: &mut [f64],
     f: &mut [f64],
     u: &mut [u64],
     y: &mut [u8],
-) -> Outcome
+) -> Result<Answer, Refusal>
     ensures { ◌≡◌ {A = Whole} (whole result cr.new h.new f.new u.new y.new)
-        (fit_nu_tuned t n m.now l.now nu eps shrinking budget (lent cr.old h.old f.old u.old y.old)) }
+        (fit_nu_tuned t n m.now l.now nu settings.eps settings.shrinking settings.budget (lent cr.old h.old f.old u.old y.old)) }
 {
     let inputs = l.len() == n;
-    let s = judge::sized(
+    judge::sized(
         n,
         inputs,
         m.len(),
@@ -99,11 +103,8 @@ pub fn fit_nu_tuned(
         f.len(),
         u.len(),
         y.len(),
-    );
-    if s == 0 {
-        return sized(n, m, l, nu, eps, shrinking, budget, t, cr, h, f, u, y);
-    }
-    Outcome::Refused(s, 0)
+    )?;
+    sized(n, m, l, nu, settings, t, cr, h, f, u, y)
 }
 
 // The same with the floor of the published Rust.
@@ -112,18 +113,16 @@ pub fn fit_nu(
     m: &[u8],
     l: &[u8],
     nu: f64,
-    eps: f64,
-    shrinking: bool,
-    budget: u64,
+    settings: Settings,
     cr: &mut [f64],
     h: &mut [f64],
     f: &mut [f64],
     u: &mut [u64],
     y: &mut [u8],
-) -> Outcome
+) -> Result<Answer, Refusal>
     ensures { ◌≡◌ {A = Whole} (whole result cr.new h.new f.new u.new y.new)
-        (fit_nu_of n m.now l.now nu eps shrinking budget (lent cr.old h.old f.old u.old y.old)) }
+        (fit_nu_of n m.now l.now nu settings.eps settings.shrinking settings.budget (lent cr.old h.old f.old u.old y.old)) }
 {
     let t = tuning::plain();
-    fit_nu_tuned(n, m, l, nu, eps, shrinking, budget, t, cr, h, f, u, y)
+    fit_nu_tuned(n, m, l, nu, settings, t, cr, h, f, u, y)
 }

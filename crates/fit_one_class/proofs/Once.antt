@@ -15,14 +15,14 @@ use Rattle.fit_one_class.proofs.fit_one_class_tuned.Reads as reads-tuned
 
 -- what a call answers and leaves
 abbrev left : (κs : Lfts 6) → ResD signature κs → AtExit (ended_of 6 kinds.ps kinds.r) κs → Whole
-left κs r s = whole r s.1.1.1.1.1.1.0.now s.1.1.1.1.1.1.1.0.now s.1.1.1.1.1.1.1.1.0.now s.1.1.1.1.1.1.1.1.1.0.now s.1.1.1.1.1.1.1.1.1.1.0.now
+left κs r s = whole r s.1.1.1.1.0.now s.1.1.1.1.1.0.now s.1.1.1.1.1.1.0.now s.1.1.1.1.1.1.1.0.now s.1.1.1.1.1.1.1.1.0.now
 
 pub one_class_once : (κs : Lfts 6) (a : ArgsD signature κs) (r r' : ResD signature κs) (s s' : AtExit (ended_of 6 kinds.ps kinds.r) κs)
     → reads.Post κs a r s → reads.Post κs a r' s' → ◌≡◌ {A = Whole} (left κs r s) (left κs r' s')
 one_class_once κs a r r' s s' p q = p ∙ sym q
 
 abbrev left_tuned : (κs : Lfts 6) → ResD signature-tuned κs → AtExit (ended_of 6 kinds-tuned.ps kinds-tuned.r) κs → Whole
-left_tuned κs r s = whole r s.1.1.1.1.1.1.1.0.now s.1.1.1.1.1.1.1.1.0.now s.1.1.1.1.1.1.1.1.1.0.now s.1.1.1.1.1.1.1.1.1.1.0.now s.1.1.1.1.1.1.1.1.1.1.1.0.now
+left_tuned κs r s = whole r s.1.1.1.1.1.0.now s.1.1.1.1.1.1.0.now s.1.1.1.1.1.1.1.0.now s.1.1.1.1.1.1.1.1.0.now s.1.1.1.1.1.1.1.1.1.0.now
 
 pub one_class_tuned_once : (κs : Lfts 6) (a : ArgsD signature-tuned κs) (r r' : ResD signature-tuned κs) (s s' : AtExit (ended_of 6 kinds-tuned.ps kinds-tuned.r) κs)
     → reads-tuned.Post κs a r s → reads-tuned.Post κs a r' s' → ◌≡◌ {A = Whole} (left_tuned κs r s) (left_tuned κs r' s')

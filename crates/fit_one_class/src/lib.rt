@@ -9,87 +9,91 @@ ghost use Rattle.fits.specs.Starts.{nothing, evenly, all_positive, one_class_to}
 ghost use Rattle.judge.specs.Sizes.{Room};
 ghost use Rattle.kernel.specs.Matrix.{Matrix};
 
-use answer::{Finish, Outcome};
-use judge::Judged;
+use answer::{Answer, Finish};
+use classification::Terms;
+use judge::Refusal;
 use kernel::Kind;
-use tuning::Tuning;
+use tuning::{Settings, Tuning};
 
 fn started(
     n: usize,
     m: &[u8],
     nu: f64,
-    eps: f64,
-    shrinking: bool,
-    budget: u64,
+    settings: Settings,
     t: Tuning,
     cr: &mut [f64],
     h: &mut [f64],
     f: &mut [f64],
     u: &mut [u64],
     y: &mut [u8],
-) -> Outcome
-    requires { (Room n (length m.now) (length cr.old) (length h.old) (length f.old) (length u.old) (length y.old)) × (Matrix n m.now) × (budget ≤ 10000000) }
+) -> Result<Answer, Refusal>
+    requires { (Room n (length m.now) (length cr.old) (length h.old) (length f.old) (length u.old) (length y.old)) × (Matrix n m.now) × (settings.budget ≤ 10000000) }
     ensures { ◌≡◌ {A = Whole} (whole result cr.new h.new f.new u.new y.new)
-        (fitted (given_by t n Kind.OneClass eps shrinking false) Finish.Plain m.now (all_positive n) (evenly one n) (one_class_to nu n nothing n) nothing budget (lent cr.old h.old f.old u.old y.old)) }
+        (fitted (given_by t n Kind.OneClass settings.eps settings.shrinking false) Finish.Plain m.now (all_positive n) (evenly one n) (one_class_to nu n nothing n) nothing settings.budget (lent cr.old h.old f.old u.old y.old)) }
 {
+    let Settings {
+        eps,
+        shrinking,
+        budget,
+    } = settings;
     let mut l = [0u8; 512];
     let mut c = [0.0f64; 512];
     let mut a = [0.0f64; 512];
     let p = [0.0f64; 512];
-    lists::fill_bytes(&mut l, 1, n);
-    lists::fill_floats(&mut c, 1.0, n);
+    lists::fill(&mut l, 1, n);
+    lists::fill(&mut c, 1.0, n);
     fits::alphas_one_class(&mut a, nu, n);
     let g = classification::given(t, n, Kind::OneClass, eps, shrinking, false);
-    classification::fit(cr, h, f, u, y, m, &l, &c, &a, &p, g, Finish::Plain, budget)
+    let terms = Terms {
+        ceilings: &c,
+        alphas: &a,
+        linear: &p,
+    };
+    classification::fit(cr, h, f, u, y, m, &l, terms, g, Finish::Plain, budget)
 }
 
 // After refusals 1 and 2.
+#[tactic(auto, using(classification::proofs::Laws::usable_one_class, judge::proofs::Accepted::floor_fine), unfolding(classification::specs::Entries::fit_one_class_tuned_sized, classification::specs::Entries::decided, judge::specs::Judge::and_then))]
 pub fn sized(
     n: usize,
     m: &[u8],
     nu: f64,
-    eps: f64,
-    shrinking: bool,
-    budget: u64,
+    settings: Settings,
     t: Tuning,
     cr: &mut [f64],
     h: &mut [f64],
     f: &mut [f64],
     u: &mut [u64],
     y: &mut [u8],
-) -> Outcome
+) -> Result<Answer, Refusal>
     requires { Room n (length m.now) (length cr.old) (length h.old) (length f.old) (length u.old) (length y.old) }
     ensures { ◌≡◌ {A = Whole} (whole result cr.new h.new f.new u.new y.new)
-        (fit_one_class_tuned_sized t n m.now nu eps shrinking budget (lent cr.old h.old f.old u.old y.old)) }
+        (fit_one_class_tuned_sized t n m.now nu settings.eps settings.shrinking settings.budget (lent cr.old h.old f.old u.old y.old)) }
 {
-    let j10 = verdict::one_class_judged(n, m, nu, eps, budget);
-    let j = judge::floor_judged(j10, t.floor);
-    match j {
-        Judged::Fine => started(n, m, nu, eps, shrinking, budget, t, cr, h, f, u, y),
-        Judged::Bad(number, index) => Outcome::Refused(number, index),
-    }
+    verdict::one_class_judged(n, m, nu, settings.eps, settings.budget)?;
+    judge::floor_judged(t.floor)?;
+    started(n, m, nu, settings, t, cr, h, f, u, y)
 }
 
 // No labels: every sample is positive, and no entry is negated.
+#[tactic(auto, using(judge::proofs::Lengths::inputs_of, judge::proofs::Lengths::room_of, judge::proofs::Lengths::long_enough), unfolding(classification::specs::Entries::fit_one_class_tuned, classification::specs::Entries::decided))]
 pub fn fit_one_class_tuned(
     n: usize,
     m: &[u8],
     nu: f64,
-    eps: f64,
-    shrinking: bool,
-    budget: u64,
+    settings: Settings,
     t: Tuning,
     cr: &mut [f64],
     h: &mut [f64],
     f: &mut [f64],
     u: &mut [u64],
     y: &mut [u8],
-) -> Outcome
+) -> Result<Answer, Refusal>
     ensures { ◌≡◌ {A = Whole} (whole result cr.new h.new f.new u.new y.new)
-        (fit_one_class_tuned t n m.now nu eps shrinking budget (lent cr.old h.old f.old u.old y.old)) }
+        (fit_one_class_tuned t n m.now nu settings.eps settings.shrinking settings.budget (lent cr.old h.old f.old u.old y.old)) }
 {
     let inputs = true;
-    let s = judge::sized(
+    judge::sized(
         n,
         inputs,
         m.len(),
@@ -98,11 +102,8 @@ pub fn fit_one_class_tuned(
         f.len(),
         u.len(),
         y.len(),
-    );
-    if s == 0 {
-        return sized(n, m, nu, eps, shrinking, budget, t, cr, h, f, u, y);
-    }
-    Outcome::Refused(s, 0)
+    )?;
+    sized(n, m, nu, settings, t, cr, h, f, u, y)
 }
 
 // The same with the floor of the published Rust.
@@ -110,18 +111,16 @@ pub fn fit_one_class(
     n: usize,
     m: &[u8],
     nu: f64,
-    eps: f64,
-    shrinking: bool,
-    budget: u64,
+    settings: Settings,
     cr: &mut [f64],
     h: &mut [f64],
     f: &mut [f64],
     u: &mut [u64],
     y: &mut [u8],
-) -> Outcome
+) -> Result<Answer, Refusal>
     ensures { ◌≡◌ {A = Whole} (whole result cr.new h.new f.new u.new y.new)
-        (fit_one_class_of n m.now nu eps shrinking budget (lent cr.old h.old f.old u.old y.old)) }
+        (fit_one_class_of n m.now nu settings.eps settings.shrinking settings.budget (lent cr.old h.old f.old u.old y.old)) }
 {
     let t = tuning::plain();
-    fit_one_class_tuned(n, m, nu, eps, shrinking, budget, t, cr, h, f, u, y)
+    fit_one_class_tuned(n, m, nu, settings, t, cr, h, f, u, y)
 }

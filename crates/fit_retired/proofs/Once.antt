@@ -14,16 +14,16 @@ use Rattle.fit_retired.proofs.fit_retired_tuned.Kinds as kinds-tuned
 use Rattle.fit_retired.proofs.fit_retired_tuned.Reads as reads-tuned
 
 -- what a call answers and leaves
-abbrev left : (κs : Lfts 11) → ResD signature κs → AtExit (ended_of 11 kinds.ps kinds.r) κs → Whole
-left κs r s = whole r s.1.1.1.1.1.1.1.1.1.1.1.0.now s.1.1.1.1.1.1.1.1.1.1.1.1.0.now s.1.1.1.1.1.1.1.1.1.1.1.1.1.0.now s.1.1.1.1.1.1.1.1.1.1.1.1.1.1.0.now s.1.1.1.1.1.1.1.1.1.1.1.1.1.1.1.0.now
+abbrev left : (κs : Lfts 9) → ResD signature κs → AtExit (ended_of 9 kinds.ps kinds.r) κs → Whole
+left κs r s = whole r s.1.1.1.1.1.1.1.0.now s.1.1.1.1.1.1.1.1.0.now s.1.1.1.1.1.1.1.1.1.0.now s.1.1.1.1.1.1.1.1.1.1.0.now s.1.1.1.1.1.1.1.1.1.1.1.0.now
 
-pub retired_once : (κs : Lfts 11) (a : ArgsD signature κs) (r r' : ResD signature κs) (s s' : AtExit (ended_of 11 kinds.ps kinds.r) κs)
+pub retired_once : (κs : Lfts 9) (a : ArgsD signature κs) (r r' : ResD signature κs) (s s' : AtExit (ended_of 9 kinds.ps kinds.r) κs)
     → reads.Post κs a r s → reads.Post κs a r' s' → ◌≡◌ {A = Whole} (left κs r s) (left κs r' s')
 retired_once κs a r r' s s' p q = p ∙ sym q
 
-abbrev left_tuned : (κs : Lfts 11) → ResD signature-tuned κs → AtExit (ended_of 11 kinds-tuned.ps kinds-tuned.r) κs → Whole
-left_tuned κs r s = whole r s.1.1.1.1.1.1.1.1.1.1.1.1.0.now s.1.1.1.1.1.1.1.1.1.1.1.1.1.0.now s.1.1.1.1.1.1.1.1.1.1.1.1.1.1.0.now s.1.1.1.1.1.1.1.1.1.1.1.1.1.1.1.0.now s.1.1.1.1.1.1.1.1.1.1.1.1.1.1.1.1.0.now
+abbrev left_tuned : (κs : Lfts 9) → ResD signature-tuned κs → AtExit (ended_of 9 kinds-tuned.ps kinds-tuned.r) κs → Whole
+left_tuned κs r s = whole r s.1.1.1.1.1.1.1.1.0.now s.1.1.1.1.1.1.1.1.1.0.now s.1.1.1.1.1.1.1.1.1.1.0.now s.1.1.1.1.1.1.1.1.1.1.1.0.now s.1.1.1.1.1.1.1.1.1.1.1.1.0.now
 
-pub retired_tuned_once : (κs : Lfts 11) (a : ArgsD signature-tuned κs) (r r' : ResD signature-tuned κs) (s s' : AtExit (ended_of 11 kinds-tuned.ps kinds-tuned.r) κs)
+pub retired_tuned_once : (κs : Lfts 9) (a : ArgsD signature-tuned κs) (r r' : ResD signature-tuned κs) (s s' : AtExit (ended_of 9 kinds-tuned.ps kinds-tuned.r) κs)
     → reads-tuned.Post κs a r s → reads-tuned.Post κs a r' s' → ◌≡◌ {A = Whole} (left_tuned κs r s) (left_tuned κs r' s')
 retired_tuned_once κs a r r' s s' p q = p ∙ sym q

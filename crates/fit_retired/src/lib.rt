@@ -16,17 +16,12 @@ ghost use Rattle.retired.specs.Entry.{stands_in, kept, fitted_over, retired_tune
 ghost use Rattle.retired.specs.Coded.{with_obj, solved_silent};
 ghost use Rattle.retired.specs.Silenced.{silenced};
 
-use answer::{Answer, Finish, Outcome};
-use judge::Judged;
+use answer::{Answer, Finish};
+use classification::Terms;
+use judge::Refusal;
 use kernel::Kind;
 use solver::Given;
-use tuning::Tuning;
-
-fn pick(stands: bool, a: f64, x: f64) -> f64
-    ensures { result ≡ cond stands a x }
-{
-    if stands { a } else { x }
-}
+use tuning::{Settings, Tuning};
 
 // Weight, ceiling and linear term of each sample at its own place: 0 and NaN for the weight and the linear term of what is retired.
 fn load_floats(f: &mut [f64], c: &[f64], a: &[f64], p: &[f64], r: &[u8], n: usize)
@@ -39,64 +34,41 @@ fn load_floats(f: &mut [f64], c: &[f64], a: &[f64], p: &[f64], r: &[u8], n: usiz
         let alpha = a[k];
         let linear = p[k];
         let stands = r[k] == 0;
-        let weight = pick(stands, alpha, 0.0);
-        let term = pick(stands, linear, none);
+        let weight = extreme::either(stands, alpha, 0.0);
+        let term = extreme::either(stands, linear, none);
         f[2 * n + k] = weight;
         f[3 * n + k] = ceiling;
         f[4 * n + k] = term;
     }
 }
 
-fn load(
-    f: &mut [f64],
-    u: &mut [u64],
-    y: &mut [u8],
-    l: &[u8],
-    c: &[f64],
-    a: &[f64],
-    p: &[f64],
-    r: &[u8],
-    n: usize,
-)
-    requires { (n ≤ 512) × (7 * n ≤ length f.old) × (2 * n ≤ length u.old) × (n ≤ length y.old) × (n ≤ length l.now) × (n ≤ length c.now) × (n ≤ length a.now) × (n ≤ length p.now) × (n ≤ length r.now) }
+fn load(f: &mut [f64], u: &mut [u64], y: &mut [u8], l: &[u8], terms: Terms<'_>, r: &[u8], n: usize)
+    requires { (n ≤ 512) × (7 * n ≤ length f.old) × (2 * n ≤ length u.old) × (n ≤ length y.old) × (n ≤ length l.now) × (n ≤ length terms.ceilings.now) × (n ≤ length terms.alphas.now) × (n ≤ length terms.linear.now) × (n ≤ length r.now) }
     ensures { ◌≡◌ {A = State} (state f.new u.new y.new)
-        (loaded n l.now c.now (kept r.now a.now n) (silenced r.now p.now n) (state f.old u.old y.old)) }
+        (loaded n l.now terms.entry.ceilings.now (kept r.now terms.entry.alphas.now n) (silenced r.now terms.entry.linear.now n) (state f.old u.old y.old)) }
 {
-    load_floats(f, c, a, p, r, n);
+    load_floats(f, terms.ceilings, terms.alphas, terms.linear, r, n);
     fits::load_numbers(u, n);
     fits::load_labels(y, l, n);
 }
 
 // Half the sum of weight·(gradient + linear term) over what stands, in order.
+#[tactic(auto, unfolding(standing::specs::End::sum_over, standing::specs::End::objective_over))]
 fn objective_over(f: &[f64], r: &[u8], n: usize) -> f64
     requires { (n ≤ 512) × (7 * n ≤ length f.now) × (n ≤ length r.now) }
     ensures { result ≡ objective_over (stands_in r.now) n f.now }
 {
     let mut v = 0.0;
     for k in 0..n {
-        v = pick(r[k] == 0, v + f[2 * n + k] * (f[k] + f[4 * n + k]), v);
+        v = extreme::either(r[k] == 0, v + f[2 * n + k] * (f[k] + f[4 * n + k]), v);
     }
     v / 2.0
 }
 
-fn with_obj(out: Outcome, x: f64) -> Outcome
+fn with_obj(out: Result<Answer, Refusal>, x: f64) -> Result<Answer, Refusal>
     ensures { result ≡ with_obj out x }
 {
-    match out {
-        Outcome::Accepted(a) => {
-            let r = a.r;
-            let why = a.exit_reason;
-            Outcome::Accepted(Answer {
-                rho: a.rho,
-                r,
-                obj: x,
-                iterations: a.iterations,
-                exit_reason: why,
-                support: a.support,
-            })
-        }
-        Outcome::Refused(number, index) => Outcome::Refused(number, index),
-    }
+    out.map(|answer| Answer { obj: x, ..answer })
 }
 
 // A run over loaded lists.
@@ -112,7 +84,7 @@ fn solve(
     r: &[u8],
     g: Given,
     budget: usize,
-) -> Outcome
+) -> Result<Answer, Refusal>
     requires { (Ready (problem_of g m.now) (state f.old u.old y.old)) × (Paired g.n u.old) × (g.side ≡ g.n) × (1 ≤ g.n) × (budget ≤ 10000000)
         × (g.n ≤ length b.now) × (g.n ≤ length l.now) × (g.n ≤ length cr.old) × (g.n ≤ length h.old) × (g.n ≤ length r.now) }
     ensures { ◌≡◌ {A = Whole} (whole result cr.new h.new f.new u.new y.new)
@@ -125,7 +97,7 @@ fn solve(
     with_obj(out, obj)
 }
 
-// Loaded, then solved.
+// Loaded, then solved. Shrinking was refused before, if it was asked for: the run is with it off.
 fn fit(
     cr: &mut [f64],
     h: &mut [f64],
@@ -134,81 +106,86 @@ fn fit(
     y: &mut [u8],
     m: &[u8],
     l: &[u8],
-    c: &[f64],
-    a: &[f64],
-    p: &[f64],
+    terms: Terms<'_>,
     r: &[u8],
     n: usize,
-    eps: f64,
+    settings: Settings,
     nu: bool,
-    budget: u64,
     t: Tuning,
-) -> Outcome
-    requires { (Room n (length m.now) (length cr.old) (length h.old) (length f.old) (length u.old) (length y.old)) × (Matrix n m.now) × (budget ≤ 10000000) × (n ≤ length l.now) × (n ≤ length c.now) × (n ≤ length a.now) × (n ≤ length p.now) × (n ≤ length r.now) }
+) -> Result<Answer, Refusal>
+    requires { (Room n (length m.now) (length cr.old) (length h.old) (length f.old) (length u.old) (length y.old)) × (Matrix n m.now) × (settings.budget ≤ 10000000) × (n ≤ length l.now) × (n ≤ length terms.ceilings.now) × (n ≤ length terms.alphas.now) × (n ≤ length terms.linear.now) × (n ≤ length r.now) }
     ensures { ◌≡◌ {A = Whole} (whole result cr.new h.new f.new u.new y.new)
-        (fitted_over (stands_in r.now) (given_by t n Kind.TwoClass eps off nu) m.now l.now c.now (kept r.now a.now n) (kept r.now p.now n) budget (lent cr.old h.old f.old u.old y.old)) }
+        (fitted_over (stands_in r.now) (given_by t n Kind.TwoClass settings.eps off nu) m.now l.now terms.entry.ceilings.now (kept r.now terms.entry.alphas.now n) (kept r.now terms.entry.linear.now n) settings.budget (lent cr.old h.old f.old u.old y.old)) }
 {
-    load(f, u, y, l, c, a, p, r, n);
+    let Settings { eps, budget, .. } = settings;
+    load(f, u, y, l, terms, r, n);
     let g = classification::given(t, n, Kind::TwoClass, eps, false, nu);
-    solve(cr, h, f, u, y, m, l, c, r, g, budget as usize)
+    solve(cr, h, f, u, y, m, l, terms.ceilings, r, g, budget as usize)
 }
 
 // After refusals 1 and 2.
+#[tactic(auto, using(retired::proofs::Laws::usable_retired), unfolding(retired::specs::Entry::retired_tuned_sized, classification::specs::Entries::decided))]
 pub fn sized(
     n: usize,
     m: &[u8],
     l: &[u8],
-    c: &[f64],
-    a: &[f64],
-    p: &[f64],
+    terms: Terms<'_>,
     r: &[u8],
     nurule: bool,
-    eps: f64,
-    shrinking: bool,
-    budget: u64,
+    settings: Settings,
     t: Tuning,
     cr: &mut [f64],
     h: &mut [f64],
     f: &mut [f64],
     u: &mut [u64],
     y: &mut [u8],
-) -> Outcome
-    requires { (Room n (length m.now) (length cr.old) (length h.old) (length f.old) (length u.old) (length y.old)) × (n ≤ length l.now) × (n ≤ length c.now) × (n ≤ length a.now) × (n ≤ length p.now) × (n ≤ length r.now) }
+) -> Result<Answer, Refusal>
+    requires { (Room n (length m.now) (length cr.old) (length h.old) (length f.old) (length u.old) (length y.old)) × (n ≤ length l.now) × (n ≤ length terms.ceilings.now) × (n ≤ length terms.alphas.now) × (n ≤ length terms.linear.now) × (n ≤ length r.now) }
     ensures { ◌≡◌ {A = Whole} (whole result cr.new h.new f.new u.new y.new)
-        (retired_tuned_sized t n m.now l.now c.now a.now p.now r.now nurule eps shrinking budget (lent cr.old h.old f.old u.old y.old)) }
+        (retired_tuned_sized t n m.now l.now terms.entry.ceilings.now terms.entry.alphas.now terms.entry.linear.now r.now nurule settings.eps settings.shrinking settings.budget (lent cr.old h.old f.old u.old y.old)) }
 {
-    let j = verdict::retired_judged(n, m, l, c, a, p, r, eps, shrinking, budget, t.floor);
-    match j {
-        Judged::Fine => fit(cr, h, f, u, y, m, l, c, a, p, r, n, eps, nurule, budget, t),
-        Judged::Bad(number, index) => Outcome::Refused(number, index),
-    }
+    let Settings {
+        eps,
+        shrinking,
+        budget,
+    } = settings;
+    let Terms {
+        ceilings,
+        alphas,
+        linear,
+    } = terms;
+    verdict::retired_judged(
+        n, m, l, ceilings, alphas, linear, r, eps, shrinking, budget, t.floor,
+    )?;
+    fit(cr, h, f, u, y, m, l, terms, r, n, settings, nurule, t)
 }
 
 // The general entry, with a byte for each sample that says whether it is retired.
+#[tactic(auto, using(judge::proofs::Lengths::inputs_of, judge::proofs::Lengths::room_of, retired::proofs::Laws::five_long), unfolding(retired::specs::Entry::retired_tuned, classification::specs::Entries::decided))]
 pub fn fit_retired_tuned(
     n: usize,
     m: &[u8],
     l: &[u8],
-    c: &[f64],
-    a: &[f64],
-    p: &[f64],
+    terms: Terms<'_>,
     r: &[u8],
     nurule: bool,
-    eps: f64,
-    shrinking: bool,
-    budget: u64,
+    settings: Settings,
     t: Tuning,
     cr: &mut [f64],
     h: &mut [f64],
     f: &mut [f64],
     u: &mut [u64],
     y: &mut [u8],
-) -> Outcome
+) -> Result<Answer, Refusal>
     ensures { ◌≡◌ {A = Whole} (whole result cr.new h.new f.new u.new y.new)
-        (retired_tuned t n m.now l.now c.now a.now p.now r.now nurule eps shrinking budget (lent cr.old h.old f.old u.old y.old)) }
+        (retired_tuned t n m.now l.now terms.entry.ceilings.now terms.entry.alphas.now terms.entry.linear.now r.now nurule settings.eps settings.shrinking settings.budget (lent cr.old h.old f.old u.old y.old)) }
 {
-    let inputs = (l.len() == n) & (c.len() == n) & (a.len() == n) & (p.len() == n) & (r.len() == n);
-    let s = judge::sized(
+    let inputs = (l.len() == n)
+        & (terms.ceilings.len() == n)
+        & (terms.alphas.len() == n)
+        & (terms.linear.len() == n)
+        & (r.len() == n);
+    judge::sized(
         n,
         inputs,
         m.len(),
@@ -217,13 +194,8 @@ pub fn fit_retired_tuned(
         f.len(),
         u.len(),
         y.len(),
-    );
-    if s == 0 {
-        return sized(
-            n, m, l, c, a, p, r, nurule, eps, shrinking, budget, t, cr, h, f, u, y,
-        );
-    }
-    Outcome::Refused(s, 0)
+    )?;
+    sized(n, m, l, terms, r, nurule, settings, t, cr, h, f, u, y)
 }
 
 // The same with the floor of the published Rust.
@@ -231,25 +203,19 @@ pub fn fit_retired(
     n: usize,
     m: &[u8],
     l: &[u8],
-    c: &[f64],
-    a: &[f64],
-    p: &[f64],
+    terms: Terms<'_>,
     r: &[u8],
     nurule: bool,
-    eps: f64,
-    shrinking: bool,
-    budget: u64,
+    settings: Settings,
     cr: &mut [f64],
     h: &mut [f64],
     f: &mut [f64],
     u: &mut [u64],
     y: &mut [u8],
-) -> Outcome
+) -> Result<Answer, Refusal>
     ensures { ◌≡◌ {A = Whole} (whole result cr.new h.new f.new u.new y.new)
-        (retired_of n m.now l.now c.now a.now p.now r.now nurule eps shrinking budget (lent cr.old h.old f.old u.old y.old)) }
+        (retired_of n m.now l.now terms.entry.ceilings.now terms.entry.alphas.now terms.entry.linear.now r.now nurule settings.eps settings.shrinking settings.budget (lent cr.old h.old f.old u.old y.old)) }
 {
     let t = tuning::plain();
-    fit_retired_tuned(
-        n, m, l, c, a, p, r, nurule, eps, shrinking, budget, t, cr, h, f, u, y,
-    )
+    fit_retired_tuned(n, m, l, terms, r, nurule, settings, t, cr, h, f, u, y)
 }

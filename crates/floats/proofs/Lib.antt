@@ -1,3 +1,2 @@
 pub mod Magnitude
-pub mod Whole
 pub mod Laws

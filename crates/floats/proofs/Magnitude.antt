@@ -1,7 +1,7 @@
--- The magnitude by the code's tests. Assumes nothing.
-use Rattle.std.proofs.Common.{◌≡◌, ℕ, zero, suc, ◌+◌, ◌*◌, ◌^◌, ◌<◌, ◌≤◌, true, false, T, eqb, ℤ, pos, negsuc, sym, refl, ap, subst, mul-pos, one-mul, zero-mul, mul-one, arith, eqb→eq, ltb-false, ltb-true, eq-eqb}
+-- The magnitude of a zero. Assumes nothing.
+use Rattle.std.proofs.Common.{◌≡◌, zero, suc, ◌*◌, ◌^◌, ◌<◌, true, false, T, eqb, ℤ, pos, negsuc, sym, refl, ap, subst, mul-pos, one-mul, zero-mul, mul-one, arith, eqb→eq}
 use lib.Pow.{pow-lt}
-use lib.Ieee.{Float, nan, inf, fin, binary64, up, down, lt, eq, neg, fits}
+use lib.Ieee.{Float, nan, inf, fin, binary64, up, down, eq, fits}
 use lib.Ieee.Fits.{up_pos, and_l}
 use Rattle.floats.specs.Helpers.{abs_of}
 
@@ -25,18 +25,6 @@ zero_alone (negsuc k) h =
     let z : ⊥ = omega arith in
     absurd z
 
--- no number lies below the product of zero
-under_zero : (a d : ℕ) → a < 0 * d → ⊥
-under_zero a d h = let q = zero-mul d in omega arith
-
-pub abs_below : (x : Float) → lt x none ≡ true → neg x ≡ abs_of x
-unfolding lt neg abs_of
-abs_below nan h = refl
-abs_below (inf true) h = refl
-abs_below (inf false) h = absurd (subst T (sym h) tt)
-abs_below (fin true m e) h = refl
-abs_below (fin false m e) h = absurd (under_zero (m * up e * 1) (down e) (ltb-true _ _ h))
-
 pub abs_zero : (x : Float) → T (fits binary64 x) → eq x none ≡ true → none ≡ abs_of x
 unfolding eq fits abs_of
 abs_zero nan t h = absurd (subst T (sym h) tt)
@@ -49,18 +37,3 @@ abs_zero (fin s (suc m) e) t h =
     let g : 0 < suc m * up e = mul-pos (omega arith) (up_pos e) in
     let z : ⊥ = omega arith in
     absurd z
-
-pub abs_above : (x : Float) → lt x none ≡ false → eq x none ≡ false → x ≡ abs_of x
-unfolding lt eq abs_of
-abs_above nan h k = refl
-abs_above (inf true) h k = absurd (subst T h tt)
-abs_above (inf false) h k = refl
-abs_above (fin false m e) h k = refl
-abs_above (fin true m e) h k =
-    let a : ℕ = m * up e * 1 in
-    let b : ℕ = 0 * down e in
-    let q : b ≡ 0 = zero-mul (down e) in
-    let p : a + b ≤ 0 = ltb-false 0 (a + b) h in
-    let r : eqb a b ≡ true = eq-eqb a b (omega arith) in
-    let s : eqb a 0 ≡ true = eq-eqb a 0 (omega arith) in
-    absurd (subst T (rw (r, s) at k) tt)

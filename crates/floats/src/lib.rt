@@ -4,6 +4,7 @@
 ghost use Rattle.std.specs.Prelude.{◌≡◌, ◌≤◌};
 ghost use Rattle.floats.specs.Helpers.{max_of, min_of, abs_of, whole_as_float, whole_part, whole_product};
 
+// Of equals the first: the library's max and min leave open which of two zeros they give.
 pub fn max(x: f64, y: f64) -> f64
     ensures { result ≡ max_of x y }
 {
@@ -31,13 +32,7 @@ pub fn min(x: f64, y: f64) -> f64
 pub fn abs(x: f64) -> f64
     ensures { result ≡ abs_of x }
 {
-    if x < 0.0 {
-        -x
-    } else if x == 0.0 {
-        0.0
-    } else {
-        x
-    }
+    x.abs()
 }
 
 // n as a float, exactly.
@@ -51,15 +46,7 @@ pub fn whole_as_float(n: usize) -> f64
 pub fn whole_part(x: f64) -> u64
     ensures { result ≡ whole_part x }
 {
-    if x > -1.0 {
-        if x < 18446744073709551616.0 {
-            std::num::truncating_f64_to_u64(x)
-        } else {
-            0xffff_ffff_ffff_ffff
-        }
-    } else {
-        0
-    }
+    std::num::saturating_f64_to_u64(x)
 }
 
 // The largest whole number not above nu·n.

@@ -14,16 +14,16 @@ use Rattle.general.proofs.general_tuned.Kinds as kinds-tuned
 use Rattle.general.proofs.general_tuned.Reads as reads-tuned
 
 -- what a call answers and leaves
-abbrev left : (κs : Lfts 10) → ResD signature κs → AtExit (ended_of 10 kinds.ps kinds.r) κs → Whole
-left κs r s = whole r s.1.1.1.1.1.1.1.1.1.1.0.now s.1.1.1.1.1.1.1.1.1.1.1.0.now s.1.1.1.1.1.1.1.1.1.1.1.1.0.now s.1.1.1.1.1.1.1.1.1.1.1.1.1.0.now s.1.1.1.1.1.1.1.1.1.1.1.1.1.1.0.now
+abbrev left : (κs : Lfts 8) → ResD signature κs → AtExit (ended_of 8 kinds.ps kinds.r) κs → Whole
+left κs r s = whole r s.1.1.1.1.1.1.0.now s.1.1.1.1.1.1.1.0.now s.1.1.1.1.1.1.1.1.0.now s.1.1.1.1.1.1.1.1.1.0.now s.1.1.1.1.1.1.1.1.1.1.0.now
 
-pub general_once : (κs : Lfts 10) (a : ArgsD signature κs) (r r' : ResD signature κs) (s s' : AtExit (ended_of 10 kinds.ps kinds.r) κs)
+pub general_once : (κs : Lfts 8) (a : ArgsD signature κs) (r r' : ResD signature κs) (s s' : AtExit (ended_of 8 kinds.ps kinds.r) κs)
     → reads.Post κs a r s → reads.Post κs a r' s' → ◌≡◌ {A = Whole} (left κs r s) (left κs r' s')
 general_once κs a r r' s s' p q = p ∙ sym q
 
-abbrev left_tuned : (κs : Lfts 10) → ResD signature-tuned κs → AtExit (ended_of 10 kinds-tuned.ps kinds-tuned.r) κs → Whole
-left_tuned κs r s = whole r s.1.1.1.1.1.1.1.1.1.1.1.0.now s.1.1.1.1.1.1.1.1.1.1.1.1.0.now s.1.1.1.1.1.1.1.1.1.1.1.1.1.0.now s.1.1.1.1.1.1.1.1.1.1.1.1.1.1.0.now s.1.1.1.1.1.1.1.1.1.1.1.1.1.1.1.0.now
+abbrev left_tuned : (κs : Lfts 8) → ResD signature-tuned κs → AtExit (ended_of 8 kinds-tuned.ps kinds-tuned.r) κs → Whole
+left_tuned κs r s = whole r s.1.1.1.1.1.1.1.0.now s.1.1.1.1.1.1.1.1.0.now s.1.1.1.1.1.1.1.1.1.0.now s.1.1.1.1.1.1.1.1.1.1.0.now s.1.1.1.1.1.1.1.1.1.1.1.0.now
 
-pub general_tuned_once : (κs : Lfts 10) (a : ArgsD signature-tuned κs) (r r' : ResD signature-tuned κs) (s s' : AtExit (ended_of 10 kinds-tuned.ps kinds-tuned.r) κs)
+pub general_tuned_once : (κs : Lfts 8) (a : ArgsD signature-tuned κs) (r r' : ResD signature-tuned κs) (s s' : AtExit (ended_of 8 kinds-tuned.ps kinds-tuned.r) κs)
     → reads-tuned.Post κs a r s → reads-tuned.Post κs a r' s' → ◌≡◌ {A = Whole} (left_tuned κs r s) (left_tuned κs r' s')
 general_tuned_once κs a r r' s s' p q = p ∙ sym q

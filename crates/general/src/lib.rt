@@ -6,69 +6,72 @@ ghost use Rattle.answer.specs.Lent.{lent, Whole, whole};
 ghost use Rattle.classification.specs.Entries.{general_tuned_sized, general_tuned, general_of};
 ghost use Rattle.judge.specs.Sizes.{Room};
 
-use answer::{Finish, Outcome};
-use judge::Judged;
+use answer::{Answer, Finish};
+use classification::Terms;
+use judge::Refusal;
 use kernel::Kind;
-use tuning::Tuning;
+use tuning::{Settings, Tuning};
 
 // After refusals 1 and 2.
+#[tactic(auto, using(classification::proofs::Laws::usable_general, judge::proofs::Accepted::floor_fine), unfolding(classification::specs::Entries::general_tuned_sized, classification::specs::Entries::decided, judge::specs::Judge::and_then))]
 pub fn sized(
     n: usize,
     m: &[u8],
     l: &[u8],
-    c: &[f64],
-    a: &[f64],
-    p: &[f64],
+    terms: Terms<'_>,
     nurule: bool,
-    eps: f64,
-    shrinking: bool,
-    budget: u64,
+    settings: Settings,
     t: Tuning,
     cr: &mut [f64],
     h: &mut [f64],
     f: &mut [f64],
     u: &mut [u64],
     y: &mut [u8],
-) -> Outcome
-    requires { (Room n (length m.now) (length cr.old) (length h.old) (length f.old) (length u.old) (length y.old)) × (n ≤ length l.now) × (n ≤ length c.now) × (n ≤ length a.now) × (n ≤ length p.now) }
+) -> Result<Answer, Refusal>
+    requires { (Room n (length m.now) (length cr.old) (length h.old) (length f.old) (length u.old) (length y.old)) × (n ≤ length l.now) × (n ≤ length terms.ceilings.now) × (n ≤ length terms.alphas.now) × (n ≤ length terms.linear.now) }
     ensures { ◌≡◌ {A = Whole} (whole result cr.new h.new f.new u.new y.new)
-        (general_tuned_sized t n m.now l.now c.now a.now p.now nurule eps shrinking budget (lent cr.old h.old f.old u.old y.old)) }
+        (general_tuned_sized t n m.now l.now terms.entry.ceilings.now terms.entry.alphas.now terms.entry.linear.now nurule settings.eps settings.shrinking settings.budget (lent cr.old h.old f.old u.old y.old)) }
 {
-    let j10 = verdict::general_judged(n, m, l, c, a, p, eps, budget);
-    let j = judge::floor_judged(j10, t.floor);
-    match j {
-        Judged::Fine => {
-            let g = classification::given(t, n, Kind::TwoClass, eps, shrinking, nurule);
-            classification::fit(cr, h, f, u, y, m, l, c, a, p, g, Finish::Plain, budget)
-        }
-        Judged::Bad(number, index) => Outcome::Refused(number, index),
-    }
+    let Settings {
+        eps,
+        shrinking,
+        budget,
+    } = settings;
+    let Terms {
+        ceilings,
+        alphas,
+        linear,
+    } = terms;
+    verdict::general_judged(n, m, l, ceilings, alphas, linear, eps, budget)?;
+    judge::floor_judged(t.floor)?;
+    let g = classification::given(t, n, Kind::TwoClass, eps, shrinking, nurule);
+    classification::fit(cr, h, f, u, y, m, l, terms, g, Finish::Plain, budget)
 }
 
-// Labels l, ceilings c, start alphas a and linear term p as lent.
+// Labels and terms as lent.
+#[tactic(auto, using(judge::proofs::Lengths::inputs_of, judge::proofs::Lengths::room_of, classification::proofs::Laws::four_long), unfolding(classification::specs::Entries::general_tuned, classification::specs::Entries::decided))]
 pub fn general_tuned(
     n: usize,
     m: &[u8],
     l: &[u8],
-    c: &[f64],
-    a: &[f64],
-    p: &[f64],
+    terms: Terms<'_>,
     nurule: bool,
-    eps: f64,
-    shrinking: bool,
-    budget: u64,
+    settings: Settings,
     t: Tuning,
     cr: &mut [f64],
     h: &mut [f64],
     f: &mut [f64],
     u: &mut [u64],
     y: &mut [u8],
-) -> Outcome
+) -> Result<Answer, Refusal>
     ensures { ◌≡◌ {A = Whole} (whole result cr.new h.new f.new u.new y.new)
-        (general_tuned t n m.now l.now c.now a.now p.now nurule eps shrinking budget (lent cr.old h.old f.old u.old y.old)) }
+        (general_tuned t n m.now l.now terms.entry.ceilings.now terms.entry.alphas.now terms.entry.linear.now nurule settings.eps settings.shrinking settings.budget (lent cr.old h.old f.old u.old y.old)) }
 {
-    let inputs = (l.len() == n) & (c.len() == n) & (a.len() == n) & (p.len() == n);
-    let s = judge::sized(
+    let inputs = (l.len() == n)
+        & (terms.ceilings.len() == n)
+        & (terms.alphas.len() == n)
+        & (terms.linear.len() == n);
+    judge::sized(
         n,
         inputs,
         m.len(),
@@ -77,13 +80,8 @@ pub fn general_tuned(
         f.len(),
         u.len(),
         y.len(),
-    );
-    if s == 0 {
-        return sized(
-            n, m, l, c, a, p, nurule, eps, shrinking, budget, t, cr, h, f, u, y,
-        );
-    }
-    Outcome::Refused(s, 0)
+    )?;
+    sized(n, m, l, terms, nurule, settings, t, cr, h, f, u, y)
 }
 
 // The same with the floor of the published Rust.
@@ -91,24 +89,18 @@ pub fn general(
     n: usize,
     m: &[u8],
     l: &[u8],
-    c: &[f64],
-    a: &[f64],
-    p: &[f64],
+    terms: Terms<'_>,
     nurule: bool,
-    eps: f64,
-    shrinking: bool,
-    budget: u64,
+    settings: Settings,
     cr: &mut [f64],
     h: &mut [f64],
     f: &mut [f64],
     u: &mut [u64],
     y: &mut [u8],
-) -> Outcome
+) -> Result<Answer, Refusal>
     ensures { ◌≡◌ {A = Whole} (whole result cr.new h.new f.new u.new y.new)
-        (general_of n m.now l.now c.now a.now p.now nurule eps shrinking budget (lent cr.old h.old f.old u.old y.old)) }
+        (general_of n m.now l.now terms.entry.ceilings.now terms.entry.alphas.now terms.entry.linear.now nurule settings.eps settings.shrinking settings.budget (lent cr.old h.old f.old u.old y.old)) }
 {
     let t = tuning::plain();
-    general_tuned(
-        n, m, l, c, a, p, nurule, eps, shrinking, budget, t, cr, h, f, u, y,
-    )
+    general_tuned(n, m, l, terms, nurule, settings, t, cr, h, f, u, y)
 }

@@ -5,10 +5,10 @@ use mathlib.Core.Path.{◌≡◌}
 use lib.Ieee.{nan, binary64}
 use lib.Ieee.Bits.{of_bits-fits}
 use lib.ListN.{get_or}
+use Rattle.std.specs.Prelude.{Some}
 use Rattle.alpha.specs.Weight.{one, minus_one}
 use Rattle.altuliscia.specs.Functions.{c_host_by, nu_host_by, one_class_host_by}
 use Rattle.boxed.specs.Range.{In}
-use Rattle.extreme.specs.declared.Choice.TheVariants.{Pair}
 use Rattle.fits.specs.Starts.{nothing, evenly, all_positive, half, shared_to, one_class_to, cost_of}
 use Rattle.hosted.specs.Hosted.{is_on, as_float, room}
 use Rattle.promises.specs.Fit.{Fit, after, weight_after, pair_after, delta_after, steps_taken}
@@ -46,7 +46,7 @@ module _ (tune : Tuning) (n : ℕ) (m l : List ℕ) (cost eps shrinking budget :
       let x = c_called tune n m l cost cost eps shrinking budget cr h an z in
       c_box tune n m l (as_float cost) (as_float eps) (is_on shrinking) budget room x.0 x.1 (of_bits-fits binary64 cost)
 
-  pub c_called_no_nan : (t i j : ℕ) → pair_after (c_trains tune n l cost cost eps shrinking) m room t ≡ Pair i j → NotNan (delta_after (c_trains tune n l cost cost eps shrinking) m room t i j)
+  pub c_called_no_nan : (t i j : ℕ) → pair_after (c_trains tune n l cost cost eps shrinking) m room t ≡ Some (i, j) → NotNan (delta_after (c_trains tune n l cost cost eps shrinking) m room t i j)
   c_called_no_nan =
       let x = c_called tune n m l cost cost eps shrinking budget cr h an z in
       c_no_nan tune n m l (as_float cost) (as_float eps) (is_on shrinking) budget room x.0 x.1 (of_bits-fits binary64 cost)
@@ -72,7 +72,7 @@ module _ (tune : Tuning) (n : ℕ) (m l : List ℕ) (nu eps shrinking budget : �
       let x = nu_called tune n m l nu eps shrinking budget cr h an z in
       nu_box tune n m l (as_float nu) (as_float eps) (is_on shrinking) budget room x.0 x.1 (of_bits-fits binary64 nu)
 
-  pub nu_called_no_nan : (t i j : ℕ) → pair_after (nu_trains tune n l nu eps shrinking) m room t ≡ Pair i j → NotNan (delta_after (nu_trains tune n l nu eps shrinking) m room t i j)
+  pub nu_called_no_nan : (t i j : ℕ) → pair_after (nu_trains tune n l nu eps shrinking) m room t ≡ Some (i, j) → NotNan (delta_after (nu_trains tune n l nu eps shrinking) m room t i j)
   nu_called_no_nan =
       let x = nu_called tune n m l nu eps shrinking budget cr h an z in
       nu_no_nan tune n m l (as_float nu) (as_float eps) (is_on shrinking) budget room x.0 x.1 (of_bits-fits binary64 nu)
@@ -98,7 +98,7 @@ module _ (tune : Tuning) (n : ℕ) (m : List ℕ) (nu eps shrinking budget : ℕ
       let x = one_class_called tune n m nu eps shrinking budget cr h an z in
       one_class_box tune n m (as_float nu) (as_float eps) (is_on shrinking) budget room x.0 x.1 (of_bits-fits binary64 nu)
 
-  pub one_class_called_no_nan : (t i j : ℕ) → pair_after (one_class_trains tune n nu eps shrinking) m room t ≡ Pair i j → NotNan (delta_after (one_class_trains tune n nu eps shrinking) m room t i j)
+  pub one_class_called_no_nan : (t i j : ℕ) → pair_after (one_class_trains tune n nu eps shrinking) m room t ≡ Some (i, j) → NotNan (delta_after (one_class_trains tune n nu eps shrinking) m room t i j)
   one_class_called_no_nan =
       let x = one_class_called tune n m nu eps shrinking budget cr h an z in
       one_class_no_nan tune n m (as_float nu) (as_float eps) (is_on shrinking) budget room x.0 x.1 (of_bits-fits binary64 nu)

@@ -1,35 +1,32 @@
 -- Where a C function answers 0, its fit was accepted, the bytes at place s are those of what the promises say of sample s, and the promises hold
 -- of its run. Assumes nothing.
 use Prim.Native.Nat.{ℕ, ◌*◌, ◌%◌, ◌^◌, ◌≤◌, ◌<◌}
-use mathlib.Core.Bool.{Bool, true, false, cond}
+use mathlib.Core.Bool.{Bool, true}
 use mathlib.Core.List.{List}
 use mathlib.Core.Path.{◌≡◌, refl, sym, ap, ◌∙◌}
 use native.Mathlib.Nat.{mod-eq_of_lt}
 use native.Mathlib.Omega.{arith}
-use borrow.Author.Tests.{eqb-true, eqb-false, eq-eqb, lt-ltb, le-leb}
+use borrow.Author.Tests.{eq-eqb, lt-ltb, le-leb}
 use lib.Dec.{T, eqb}
 use lib.Ieee.{Float, nan, binary64, to_bits, fits}
 use lib.Ieee.Bits.{of_bits-fits, to_bits-lt}
 use lib.Ieee.Fits.{cond-fits}
 use lib.ListN.{length, get_or, length-replicate, get_or-replicate}
+use Rattle.std.specs.Prelude.{Some}
 use Rattle.alpha.specs.Weight as Weight
 use Rattle.altuliscia.specs.Functions.{general_host_by, c_host_by, nu_host_by, one_class_host_by}
 use Rattle.answer.specs.Lent.{Lent, Whole}
 use Rattle.answer.specs.declared.Answer.{Answer}
-use Rattle.answer.specs.declared.Outcome.{Outcome}
-use Rattle.answer.specs.declared.Outcome.TheVariants.{Accepted, Refused}
 use Rattle.boxed.specs.Range.{In}
-use Rattle.classification.specs.Entries.{fitted, decided, entered, general_tuned_sized, fit_c_tuned_sized, fit_c_tuned, fit_nu_tuned_sized, fit_nu_tuned, fit_one_class_tuned_sized, fit_one_class_tuned}
+use Rattle.classification.specs.Entries.{fitted, decided, general_tuned_sized, fit_c_tuned_sized, fit_c_tuned, fit_nu_tuned_sized, fit_nu_tuned, fit_one_class_tuned_sized, fit_one_class_tuned}
 use Rattle.classification.proofs.Laws.{Usable, usable_general, usable_c, usable_nu, usable_one_class}
-use Rattle.extreme.specs.declared.Choice.TheVariants.{Pair}
-use Rattle.hosted.specs.Hosted.{is_on, as_float, byte_sizes, general_inputs, decoded_to, floats_of, stored_to, room, Handed, handed, delivered_by, delivered, turned_away, hosted_by, fresh_places, fresh_floats, fresh_numbers, fresh_bytes, answered_by}
+use Rattle.hosted.specs.Hosted.{is_on, as_float, byte_sizes, general_inputs, decoded_to, floats_of, stored_to, room, Handed, delivered_by, delivered, hosted_by, fresh_places, fresh_floats, fresh_numbers, fresh_bytes, answered_by}
 use Rattle.hosted.proofs.Serves.{Serves, inputs_right, serves}
 use Rattle.fits.proofs.Starts.{cost_at}
 use Rattle.judge.specs.Judge.{general_judged, c_judged, nu_judged, one_class_judged, floor_judged}
 use Rattle.judge.specs.Sizes.{sizes, Room}
+use Rattle.judge.specs.Refusals.{number}
 use Rattle.judge.proofs.Accepted.{floor_fine}
-use Rattle.judge.specs.declared.Judged.{Judged}
-use Rattle.judge.specs.declared.Judged.TheVariants.{Fine}
 use Rattle.lists.proofs.Prefix.{prefix_at}
 use Rattle.promises.specs.Fit.{Fit, own_weight, r_of, after, weight_after, pair_after, delta_after, steps_taken}
 use Rattle.classification.proofs.Accepts.{decided_in}
@@ -39,7 +36,6 @@ use Rattle.promises.proofs.Boxes.{general_common, nu_home_box, one_class_home_bo
 use Rattle.finder.proofs.Doubles.{Double}
 use Rattle.promises.proofs.Doubles.{coefficient_doubled, served_own_double}
 use Rattle.promises.proofs.Home.{served_home}
-use Rattle.promises.proofs.Numbers.{general_sized_number, c_sized_number, nu_sized_number, one_class_sized_number, some_number}
 use Rattle.promises.proofs.Travel.{Served, served_travels, travelling_travels, served_ceilings}
 use Rattle.rounding.specs.Units.{NotNan}
 use Rattle.travel.specs.Home.{last_left}
@@ -51,36 +47,50 @@ use Rattle.tuning.specs.declared.Tuning.{Tuning}
 use Rattle.handed.specs.Gives.{Gives}
 use Rattle.handed.specs.Trains.{general_trains, c_trains, nu_trains, one_class_trains}
 use Rattle.handed.proofs.Stored.{stored_at}
+use Rattle.std.specs.Prelude.{⊤, Result, Ok, Err}
+use Rattle.judge.specs.declared.Refusal.{Refusal}
+use Rattle.judge.specs.declared.Refusal.TheVariants.{Samples, Length, Kernel, Label, Ceiling, Alpha, Linear, Eps, Nu, Budget, ShrunkAway, Retired, RetiredShrinking, Floor}
 
 -- ---- 0 says: not turned away
 
-pub turned_not : (number : ℕ) (w : Handed) (cr h an : List ℕ) → (hosted_by number w cr h an).code ≡ 0 → (number ≡ 0) × (hosted_by number w cr h an ≡ w)
+some_refusal : (refusal : Refusal) → 1 ≤ number refusal
+some_refusal Samples = omega arith
+some_refusal Length = omega arith
+some_refusal (Kernel i) = omega arith
+some_refusal (Label i) = omega arith
+some_refusal (Ceiling i) = omega arith
+some_refusal (Alpha i) = omega arith
+some_refusal (Linear i) = omega arith
+some_refusal Eps = omega arith
+some_refusal Nu = omega arith
+some_refusal Budget = omega arith
+some_refusal ShrunkAway = omega arith
+some_refusal Retired = omega arith
+some_refusal RetiredShrinking = omega arith
+some_refusal Floor = omega arith
+
+pub turned_not : (j : Result ⊤ Refusal) (w : Handed) (cr h an : List ℕ) → (hosted_by j w cr h an).code ≡ 0 → (j ≡ Ok tt) × (hosted_by j w cr h an ≡ w)
 unfolding hosted_by
-turned_not number w cr h an = go (eqb number 0) refl
-  where
-    go : (b : Bool) → eqb number 0 ≡ b → (cond b w (handed number cr h (turned_away number an))).code ≡ 0
-        → (number ≡ 0) × (cond b w (handed number cr h (turned_away number an)) ≡ w)
-    go true e z = (eqb-true number 0 e, refl)
-    go false e z = absurd (eqb-false number 0 e z)
+turned_not (Ok x) w cr h an z = (refl, refl)
+turned_not (Err refusal) w cr h an z = let s = some_refusal refusal in absurd (omega arith)
 
 -- ---- and not refused
 
 pub record Out (n : ℕ) (w : Whole) (cr h an : List ℕ) (o : Handed) : Type 0 where
   pub answer : Answer
-  pub accepted : w.out ≡ Accepted answer
-  pub told : o.answer ≡ answered_by (Accepted answer) an
+  pub accepted : w.out ≡ Ok answer
+  pub told : o.answer ≡ answered_by (Ok answer) an
   pub crate : o.crate ≡ stored_to w.left.crate cr n
   pub home : o.home ≡ stored_to w.left.home h n
 
-pub delivered_out : (n : ℕ) (w : Whole) (cr h an : List ℕ) → ((number index : ℕ) → w.out ≡ Refused number index → 1 ≤ number)
-    → (delivered n w cr h an).code ≡ 0 → Out n w cr h an (delivered n w cr h an)
+pub delivered_out : (n : ℕ) (w : Whole) (cr h an : List ℕ) → (delivered n w cr h an).code ≡ 0 → Out n w cr h an (delivered n w cr h an)
 unfolding delivered delivered_by
-delivered_out n w cr h an some = go w.out refl
+delivered_out n w cr h an = go w.out refl
   where
-    go : (o : Outcome) → w.out ≡ o → (delivered_by n o w.left.crate w.left.home cr h an).code ≡ 0
+    go : (o : Result Answer Refusal) → w.out ≡ o → (delivered_by n o w.left.crate w.left.home cr h an).code ≡ 0
         → Out n w cr h an (delivered_by n o w.left.crate w.left.home cr h an)
-    go (Accepted x) e z = record { answer = x; accepted = e; told = refl; crate = refl; home = refl }
-    go (Refused k i) e z = let p = some k i e in absurd (omega arith)
+    go (Ok x) e z = record { answer = x; accepted = e; told = refl; crate = refl; home = refl }
+    go (Err refusal) e z = let s = some_refusal refusal in absurd (omega arith)
 
 -- ---- a fit over the call's own room
 
@@ -115,18 +125,17 @@ gives {k = k} {m = m} {cr = cr} {h = h} {w = w} r double = record {
 }
 
 -- a function that answers 0: its sizes are right, nothing was refused, and the fit ran
-ran : (k : Fit) (m cr h an : List ℕ) (budget number : ℕ) (j : Judged) → k.given.side ≡ k.given.n
-    → (number ≡ 0 → Serves k.given.n (length m) (length cr) (length h) (length an))
-    → (k.given.n ≤ 512 → length m ≡ 8 * (k.given.n * k.given.n) → j ≡ Fine → Usable k.given.n m budget)
-    → ((q index : ℕ) → (decided j (fit_over k m budget) room).out ≡ Refused q index → 1 ≤ q)
-    → (hosted_by number (delivered k.given.n (decided j (fit_over k m budget) room) cr h an) cr h an).code ≡ 0
-    → (number ≡ 0) × (j ≡ Fine)
-    × Ran k m cr h an budget (decided j (fit_over k m budget) room) (hosted_by number (delivered k.given.n (decided j (fit_over k m budget) room) cr h an) cr h an)
-ran k m cr h an budget number j square sized usable some z =
+ran : (k : Fit) (m cr h an : List ℕ) (budget : ℕ) (turned j : Result ⊤ Refusal) → k.given.side ≡ k.given.n
+    → (turned ≡ Ok tt → Serves k.given.n (length m) (length cr) (length h) (length an))
+    → (k.given.n ≤ 512 → length m ≡ 8 * (k.given.n * k.given.n) → j ≡ Ok tt → Usable k.given.n m budget)
+    → (hosted_by turned (delivered k.given.n (decided j (fit_over k m budget) room) cr h an) cr h an).code ≡ 0
+    → (turned ≡ Ok tt) × (j ≡ Ok tt)
+    × Ran k m cr h an budget (decided j (fit_over k m budget) room) (hosted_by turned (delivered k.given.n (decided j (fit_over k m budget) room) cr h an) cr h an)
+ran k m cr h an budget turned j square sized usable z =
     let w = decided j (fit_over k m budget) room in
-    let t = turned_not number (delivered k.given.n w cr h an) cr h an z in
+    let t = turned_not turned (delivered k.given.n w cr h an) cr h an z in
     let v = sized t.0 in
-    let o = delivered_out k.given.n w cr h an some (sym (ap (λ (q : Handed). q.code) t.1) ∙ z) in
+    let o = delivered_out k.given.n w cr h an (sym (ap (λ (q : Handed). q.code) t.1) ∙ z) in
     let f = decided_in (fit_over k m budget) room o.answer j o.accepted in (
       t.0,
       f.0,
@@ -140,8 +149,8 @@ ran k m cr h an budget number j square sized usable some z =
     )
 
 -- lists of the right sizes are let in
-let_in : (n : ℕ) (inputs : Bool) (m rc rh f u y : ℕ) (w : Whole) (d : Lent) → inputs ≡ true → Room n m rc rh f u y → entered (sizes n inputs m rc rh f u y) w d ≡ w
-unfolding entered sizes
+let_in : (n : ℕ) (inputs : Bool) (m rc rh f u y : ℕ) (w : Whole) (d : Lent) → inputs ≡ true → Room n m rc rh f u y → decided (sizes n inputs m rc rh f u y) w d ≡ w
+unfolding decided sizes
 let_in n inputs m rc rh f u y w d i r =
     rw (lt-ltb 0 n r.some, le-leb n 512 r.most, i, eq-eqb m (8 * (n * n)) r.matrix, le-leb n rc r.crate, le-leb n rh r.home, le-leb (7 * n) f r.floats, le-leb (2 * n) u r.numbers, le-leb n y r.bytes)
 
@@ -161,13 +170,12 @@ module _ (tune : Tuning) (n : ℕ) (m l c a p : List ℕ) (nurule eps shrinking 
   abbrev general_w : Whole
   general_w = general_tuned_sized tune n m l (floats_of c n) (floats_of a n) (floats_of p n) (is_on nurule) (as_float eps) (is_on shrinking) budget room
 
-  pub general_ran : (byte_sizes n (general_inputs n l c a p) m cr h an ≡ 0) × (floor_judged tune.floor (general_judged n m l (floats_of c n) (floats_of a n) (floats_of p n) (as_float eps) budget) ≡ Fine) × Ran (general_trains tune n l c a p nurule eps shrinking) m cr h an budget general_w (general_host_by tune n m l c a p nurule eps shrinking budget cr h an)
+  pub general_ran : (byte_sizes n (general_inputs n l c a p) m cr h an ≡ Ok tt) × (floor_judged tune.floor (general_judged n m l (floats_of c n) (floats_of a n) (floats_of p n) (as_float eps) budget) ≡ Ok tt) × Ran (general_trains tune n l c a p nurule eps shrinking) m cr h an budget general_w (general_host_by tune n m l c a p nurule eps shrinking budget cr h an)
   unfolding general_host_by general_tuned_sized
   general_ran =
       ran general_k m cr h an budget (byte_sizes n (general_inputs n l c a p) m cr h an) (floor_judged tune.floor (general_judged n m l (floats_of c n) (floats_of a n) (floats_of p n) (as_float eps) budget)) refl
       (serves n (general_inputs n l c a p) (length m) (length cr) (length h) (length an))
       (λ most long f. usable_general n m budget most long l (floats_of c n) (floats_of a n) (floats_of p n) (as_float eps) (floor_fine tune.floor _ f).0)
-      (λ q i e. some_number tune.floor (is_on shrinking) q (general_sized_number tune n m l (floats_of c n) (floats_of a n) (floats_of p n) (is_on nurule) (as_float eps) (is_on shrinking) budget room q i e))
       z
 
   pub general_gives : Gives (general_trains tune n l c a p nurule eps shrinking) m budget (general_host_by tune n m l c a p nurule eps shrinking budget cr h an)
@@ -177,8 +185,8 @@ module _ (tune : Tuning) (n : ℕ) (m l c a p : List ℕ) (nurule eps shrinking 
 
   -- the training was accepted, and its answer is what is written: said of `general_tuned_sized`, since the entry `general_of` asks for lists of n places, and what
   -- is read from the bytes has 512
-  pub general_called : (x : Answer) × ((general_tuned_sized tune n m l (floats_of c n) (floats_of a n) (floats_of p n) (is_on nurule) (as_float eps) (is_on shrinking) budget room).out ≡ Accepted x)
-      × ((general_host_by tune n m l c a p nurule eps shrinking budget cr h an).answer ≡ answered_by (Accepted x) an)
+  pub general_called : (x : Answer) × ((general_tuned_sized tune n m l (floats_of c n) (floats_of a n) (floats_of p n) (is_on nurule) (as_float eps) (is_on shrinking) budget room).out ≡ Ok x)
+      × ((general_host_by tune n m l c a p nurule eps shrinking budget cr h an).answer ≡ answered_by (Ok x) an)
   general_called = let r = general_ran.2 in (r.out.answer, r.out.accepted, r.out.told)
 
   pub general_called_travels : (t : ℕ) → Travelled n (λ s. get_or l s 0) (λ s. get_or (floats_of p n) s nan) (after (general_trains tune n l c a p nurule eps shrinking) m room t).state
@@ -199,7 +207,7 @@ module _ (tune : Tuning) (n : ℕ) (m l c a p : List ℕ) (nurule eps shrinking 
     pub general_called_box : (t i : ℕ) → i < n → In b (weight_after (general_trains tune n l c a p nurule eps shrinking) m room t i)
     general_called_box = served_box general_ran.2.served one_b
 
-    pub general_called_no_nan : (t i j : ℕ) → pair_after (general_trains tune n l c a p nurule eps shrinking) m room t ≡ Pair i j → NotNan (delta_after (general_trains tune n l c a p nurule eps shrinking) m room t i j)
+    pub general_called_no_nan : (t i j : ℕ) → pair_after (general_trains tune n l c a p nurule eps shrinking) m room t ≡ Some (i, j) → NotNan (delta_after (general_trains tune n l c a p nurule eps shrinking) m room t i j)
     general_called_no_nan = served_no_nan general_ran.2.served one_b
 
     pub general_called_home_box : (s : ℕ) → s < n → In b (last_left (steps_taken (general_trains tune n l c a p nurule eps shrinking) m room budget) s (get_or (floats_of a n) s nan))
@@ -212,13 +220,12 @@ module _ (tune : Tuning) (n : ℕ) (m l : List ℕ) (cpos cneg eps shrinking bud
   abbrev c_w : Whole
   c_w = fit_c_tuned_sized tune n m l (as_float cpos) (as_float cneg) (as_float eps) (is_on shrinking) budget room
 
-  pub c_ran : (byte_sizes n (eqb (length l) n) m cr h an ≡ 0) × (floor_judged tune.floor (c_judged n m l (as_float cpos) (as_float cneg) (as_float eps) budget) ≡ Fine) × Ran (c_trains tune n l cpos cneg eps shrinking) m cr h an budget c_w (c_host_by tune n m l cpos cneg eps shrinking budget cr h an)
+  pub c_ran : (byte_sizes n (eqb (length l) n) m cr h an ≡ Ok tt) × (floor_judged tune.floor (c_judged n m l (as_float cpos) (as_float cneg) (as_float eps) budget) ≡ Ok tt) × Ran (c_trains tune n l cpos cneg eps shrinking) m cr h an budget c_w (c_host_by tune n m l cpos cneg eps shrinking budget cr h an)
   unfolding c_host_by fit_c_tuned_sized
   c_ran =
       ran c_k m cr h an budget (byte_sizes n (eqb (length l) n) m cr h an) (floor_judged tune.floor (c_judged n m l (as_float cpos) (as_float cneg) (as_float eps) budget)) refl
       (serves n (eqb (length l) n) (length m) (length cr) (length h) (length an))
       (λ most long f. usable_c n m budget most long l (as_float cpos) (as_float cneg) (as_float eps) (floor_fine tune.floor _ f).0)
-      (λ q i e. some_number tune.floor (is_on shrinking) q (c_sized_number tune n m l (as_float cpos) (as_float cneg) (as_float eps) (is_on shrinking) budget room q i e))
       z
 
   pub c_gives : Gives (c_trains tune n l cpos cneg eps shrinking) m budget (c_host_by tune n m l cpos cneg eps shrinking budget cr h an)
@@ -231,8 +238,8 @@ module _ (tune : Tuning) (n : ℕ) (m l : List ℕ) (cpos cneg eps shrinking bud
       r.out.answer r.out.accepted)
 
   -- the entry accepts, so all that is promised of it holds; and its answer is what is written
-  pub c_called : (x : Answer) × ((fit_c_tuned tune n m l (as_float cpos) (as_float cneg) (as_float eps) (is_on shrinking) budget room).out ≡ Accepted x)
-      × ((c_host_by tune n m l cpos cneg eps shrinking budget cr h an).answer ≡ answered_by (Accepted x) an)
+  pub c_called : (x : Answer) × ((fit_c_tuned tune n m l (as_float cpos) (as_float cneg) (as_float eps) (is_on shrinking) budget room).out ≡ Ok x)
+      × ((c_host_by tune n m l cpos cneg eps shrinking budget cr h an).answer ≡ answered_by (Ok x) an)
   unfolding fit_c_tuned
   c_called =
       let r = c_ran in
@@ -246,18 +253,17 @@ module _ (tune : Tuning) (n : ℕ) (m l : List ℕ) (nu eps shrinking budget : �
   abbrev nu_w : Whole
   nu_w = fit_nu_tuned_sized tune n m l (as_float nu) (as_float eps) (is_on shrinking) budget room
 
-  pub nu_ran : (byte_sizes n (eqb (length l) n) m cr h an ≡ 0) × (floor_judged tune.floor (nu_judged n m l (as_float nu) (as_float eps) budget) ≡ Fine) × Ran (nu_trains tune n l nu eps shrinking) m cr h an budget nu_w (nu_host_by tune n m l nu eps shrinking budget cr h an)
+  pub nu_ran : (byte_sizes n (eqb (length l) n) m cr h an ≡ Ok tt) × (floor_judged tune.floor (nu_judged n m l (as_float nu) (as_float eps) budget) ≡ Ok tt) × Ran (nu_trains tune n l nu eps shrinking) m cr h an budget nu_w (nu_host_by tune n m l nu eps shrinking budget cr h an)
   unfolding nu_host_by fit_nu_tuned_sized
   nu_ran =
       ran nu_k m cr h an budget (byte_sizes n (eqb (length l) n) m cr h an) (floor_judged tune.floor (nu_judged n m l (as_float nu) (as_float eps) budget)) refl
       (serves n (eqb (length l) n) (length m) (length cr) (length h) (length an))
       (λ most long f. usable_nu n m budget most long l (as_float nu) (as_float eps) (floor_fine tune.floor _ f).0)
-      (λ q i e. some_number tune.floor (is_on shrinking) q (nu_sized_number tune n m l (as_float nu) (as_float eps) (is_on shrinking) budget room q i e))
       z
 
   -- the entry accepts, so all that is promised of it holds; and its answer is what is written
-  pub nu_called : (x : Answer) × ((fit_nu_tuned tune n m l (as_float nu) (as_float eps) (is_on shrinking) budget room).out ≡ Accepted x)
-      × ((nu_host_by tune n m l nu eps shrinking budget cr h an).answer ≡ answered_by (Accepted x) an)
+  pub nu_called : (x : Answer) × ((fit_nu_tuned tune n m l (as_float nu) (as_float eps) (is_on shrinking) budget room).out ≡ Ok x)
+      × ((nu_host_by tune n m l nu eps shrinking budget cr h an).answer ≡ answered_by (Ok x) an)
   unfolding fit_nu_tuned
   nu_called =
       let r = nu_ran in
@@ -276,18 +282,17 @@ module _ (tune : Tuning) (n : ℕ) (m : List ℕ) (nu eps shrinking budget : ℕ
   abbrev one_class_w : Whole
   one_class_w = fit_one_class_tuned_sized tune n m (as_float nu) (as_float eps) (is_on shrinking) budget room
 
-  pub one_class_ran : (byte_sizes n true m cr h an ≡ 0) × (floor_judged tune.floor (one_class_judged n m (as_float nu) (as_float eps) budget) ≡ Fine) × Ran (one_class_trains tune n nu eps shrinking) m cr h an budget one_class_w (one_class_host_by tune n m nu eps shrinking budget cr h an)
+  pub one_class_ran : (byte_sizes n true m cr h an ≡ Ok tt) × (floor_judged tune.floor (one_class_judged n m (as_float nu) (as_float eps) budget) ≡ Ok tt) × Ran (one_class_trains tune n nu eps shrinking) m cr h an budget one_class_w (one_class_host_by tune n m nu eps shrinking budget cr h an)
   unfolding one_class_host_by fit_one_class_tuned_sized
   one_class_ran =
       ran one_class_k m cr h an budget (byte_sizes n true m cr h an) (floor_judged tune.floor (one_class_judged n m (as_float nu) (as_float eps) budget)) refl
       (serves n true (length m) (length cr) (length h) (length an))
       (λ most long f. usable_one_class n m budget most long (as_float nu) (as_float eps) (floor_fine tune.floor _ f).0)
-      (λ q i e. some_number tune.floor (is_on shrinking) q (one_class_sized_number tune n m (as_float nu) (as_float eps) (is_on shrinking) budget room q i e))
       z
 
   -- the entry accepts, so all that is promised of it holds; and its answer is what is written
-  pub one_class_called : (x : Answer) × ((fit_one_class_tuned tune n m (as_float nu) (as_float eps) (is_on shrinking) budget room).out ≡ Accepted x)
-      × ((one_class_host_by tune n m nu eps shrinking budget cr h an).answer ≡ answered_by (Accepted x) an)
+  pub one_class_called : (x : Answer) × ((fit_one_class_tuned tune n m (as_float nu) (as_float eps) (is_on shrinking) budget room).out ≡ Ok x)
+      × ((one_class_host_by tune n m nu eps shrinking budget cr h an).answer ≡ answered_by (Ok x) an)
   unfolding fit_one_class_tuned
   one_class_called =
       let r = one_class_ran in

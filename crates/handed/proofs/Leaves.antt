@@ -6,15 +6,14 @@ use mathlib.Core.Logic.{inl, inr}
 use mathlib.Core.Path.{◌≡◌, refl, sym, ◌∙◌}
 use native.Mathlib.Nat.{mod-eq_of_lt}
 use native.Mathlib.Omega.{arith}
-use borrow.Author.Tests.{eqb-true, leb-true, le-leb}
+use borrow.Author.Tests.{leb-true, le-leb}
 use lib.Dec.{eqb, leb}
 use lib.Ieee.{Float}
 use lib.ListN.{length, get_or}
 use Rattle.altuliscia.specs.Functions.{general_host_by, retired_host, c_host_by, nu_host_by, one_class_host_by}
 use Rattle.answer.specs.Answer.{words_of}
 use Rattle.answer.specs.Lent.{Whole}
-use Rattle.answer.specs.declared.Outcome.{Outcome}
-use Rattle.answer.specs.declared.Outcome.TheVariants.{Accepted, Refused}
+use Rattle.judge.specs.Refusals.{number}
 use Rattle.hosted.specs.Hosted.{is_on, byte_sizes, general_inputs, floor_known, tuning_of, handed, answered_by, delivered_by, delivered, turned_away, hosted_by}
 use Rattle.hosted.proofs.Serves.{serves}
 use Rattle.promises.proofs.Beyond.{beyond_refl}
@@ -25,46 +24,49 @@ use Rattle.handed.specs.Trains.{MayAnswer, RetiredMayAnswer}
 use Rattle.handed.proofs.Numbers.{general_called_number, c_called_number, nu_called_number, one_class_called_number}
 use Rattle.handed.proofs.Retired.{retired_called_number}
 use Rattle.handed.proofs.Stored.{stored_beyond, word_at, words_beyond}
+use Rattle.std.specs.Prelude.{⊤, Result, Ok, Err}
+use Rattle.answer.specs.declared.Answer.{Answer}
+use Rattle.judge.specs.declared.Refusal.{Refusal}
 
 -- the answer's first word
-first_word : (o : Outcome) (an : List ℕ) (q : ℕ) → get_or (words_of o) 0 0 ≡ q → q ≤ 14 → 72 ≤ length an → digits (answered_by o an) 0 8 ≡ q
+first_word : (o : Result Answer Refusal) (an : List ℕ) (q : ℕ) → get_or (words_of o) 0 0 ≡ q → q ≤ 14 → 72 ≤ length an → digits (answered_by o an) 0 8 ≡ q
 first_word o an q e few long = word_at (words_of o) an 9 0 long (omega arith) ∙ rw e (mod-eq_of_lt (omega arith))
 
 module _ (n : ℕ) (cr h an : List ℕ) where
-  -- handed back with the result q: an answer that was written, and lists that were not
-  pub refused_leaves : (q i : ℕ) → q ≤ 14 → 72 ≤ length an → HandsBack n 72 cr h an (handed q cr h (answered_by (Refused q i) an))
+  -- handed back with a refusal's number: an answer that was written, and lists that were not
+  pub refused_leaves : (r : Refusal) → number r ≤ 14 → 72 ≤ length an → HandsBack n 72 cr h an (handed (number r) cr h (answered_by (Err r) an))
   unfolding words_of
-  refused_leaves q i few long = record {
+  refused_leaves r few long = record {
     results = λ z. (refl, refl);
     crate = beyond_refl _ _ _;
     home = beyond_refl _ _ _;
-    answer = words_beyond (words_of (Refused q i)) an 9;
+    answer = words_beyond (words_of (Err r)) an 9;
     short = λ s. absurd (omega arith);
-    told = first_word (Refused q i) an q refl few;
+    told = first_word (Err r) an (number r) refl few;
   }
 
   delivered_leaves : (w : Whole) → (delivered n w cr h an).code ≤ 14 → 72 ≤ length an → HandsBack n 72 cr h an (delivered n w cr h an)
   unfolding delivered delivered_by words_of
   delivered_leaves w = go w.out
     where
-      go : (o : Outcome) → (delivered_by n o w.left.crate w.left.home cr h an).code ≤ 14 → 72 ≤ length an
+      go : (o : Result Answer Refusal) → (delivered_by n o w.left.crate w.left.home cr h an).code ≤ 14 → 72 ≤ length an
           → HandsBack n 72 cr h an (delivered_by n o w.left.crate w.left.home cr h an)
-      go (Refused q i) few long = refused_leaves q i few long
-      go (Accepted x) few long = record {
+      go (Err r) few long = refused_leaves r few long
+      go (Ok x) few long = record {
         results = λ z. absurd (z refl);
         crate = stored_beyond w.left.crate cr n;
         home = stored_beyond w.left.home h n;
-        answer = words_beyond (words_of (Accepted x)) an 9;
+        answer = words_beyond (words_of (Ok x)) an 9;
         short = λ s. absurd (omega arith);
-        told = first_word (Accepted x) an 0 refl (omega arith);
+        told = first_word (Ok x) an 0 refl (omega arith);
       }
 
-  away_leaves : (q : ℕ) → q ≤ 14 → HandsBack n 72 cr h an (handed q cr h (turned_away q an))
+  away_leaves : (q : Refusal) → number q ≤ 14 → HandsBack n 72 cr h an (handed (number q) cr h (turned_away q an))
   unfolding turned_away
   away_leaves q few = go (leb 72 (length an)) refl
     where
-      go : (b : Bool) → leb 72 (length an) ≡ b → HandsBack n 72 cr h an (handed q cr h (cond b (answered_by (Refused q 0) an) an))
-      go true e = refused_leaves q 0 few (leb-true 72 (length an) e)
+      go : (b : Bool) → leb 72 (length an) ≡ b → HandsBack n 72 cr h an (handed (number q) cr h (cond b (answered_by (Err q) an) an))
+      go true e = refused_leaves q few (leb-true 72 (length an) e)
       go false e = record {
         results = λ z. (refl, refl);
         crate = beyond_refl _ _ _;
@@ -75,15 +77,11 @@ module _ (n : ℕ) (cr h an : List ℕ) where
       }
 
   -- by its sizes, or by its training
-  hosted_leaves : (number : ℕ) (w : Whole) → (number ≡ 0 → 72 ≤ length an) → (hosted_by number (delivered n w cr h an) cr h an).code ≤ 14
-      → HandsBack n 72 cr h an (hosted_by number (delivered n w cr h an) cr h an)
+  hosted_leaves : (j : Result ⊤ Refusal) (w : Whole) → (j ≡ Ok tt → 72 ≤ length an) → (hosted_by j (delivered n w cr h an) cr h an).code ≤ 14
+      → HandsBack n 72 cr h an (hosted_by j (delivered n w cr h an) cr h an)
   unfolding hosted_by
-  hosted_leaves number w long = go (eqb number 0) refl
-    where
-      go : (b : Bool) → eqb number 0 ≡ b → (cond b (delivered n w cr h an) (handed number cr h (turned_away number an))).code ≤ 14
-          → HandsBack n 72 cr h an (cond b (delivered n w cr h an) (handed number cr h (turned_away number an)))
-      go true e few = delivered_leaves w few (long (eqb-true number 0 e))
-      go false e few = away_leaves number few
+  hosted_leaves (Ok x) w long few = delivered_leaves w few (long refl)
+  hosted_leaves (Err r) w long few = away_leaves r few
 
 -- ---- the five functions
 
@@ -100,7 +98,7 @@ few_retired x (inl h) = omega (arith, h.0)
 few_retired x (inr h) = let e = h.0 in omega arith
 
 -- right sizes have an answer of 72 bytes
-answer_long : (n : ℕ) (inputs : Bool) (m cr h an : List ℕ) → byte_sizes n inputs m cr h an ≡ 0 → 72 ≤ length an
+answer_long : (n : ℕ) (inputs : Bool) (m cr h an : List ℕ) → byte_sizes n inputs m cr h an ≡ Ok tt → 72 ≤ length an
 answer_long n inputs m cr h an e = (serves n inputs (length m) (length cr) (length h) (length an) e).answer
 
 pub general_called_leaves : (tune : Tuning) (n : ℕ) (m l c a p : List ℕ) (nurule eps shrinking budget : ℕ) (cr h an : List ℕ)

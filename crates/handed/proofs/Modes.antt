@@ -17,9 +17,10 @@ use Rattle.promises.proofs.Modes.{general_sized_modes, c_sized_modes, nu_sized_m
 use Rattle.tuning.specs.Tuning.{tuned}
 use Rattle.handed.proofs.Handed.{room_fits}
 use Rattle.handed.proofs.Retired.{hosted_same}
+use Rattle.std.specs.Prelude.{Ok}
 
 -- the room that a call brings suffices
-room_for : (n : ℕ) (inputs : Bool) (m cr h an : List ℕ) → byte_sizes n inputs m cr h an ≡ 0 → (7 * n ≤ length room.floats) × (n ≤ 512)
+room_for : (n : ℕ) (inputs : Bool) (m cr h an : List ℕ) → byte_sizes n inputs m cr h an ≡ Ok tt → (7 * n ≤ length room.floats) × (n ≤ 512)
 room_for n inputs m cr h an z =
     let r = room_fits n (length m) (serves n inputs (length m) (length cr) (length h) (length an) z).room in
     (r.floats, r.most)

@@ -11,31 +11,34 @@ use lib.ListN.{length}
 use Rattle.altuliscia.specs.Functions.{general_host_by, c_host_by, nu_host_by, one_class_host_by}
 use Rattle.alpha.specs.Weight as Weight
 use Rattle.answer.specs.Lent.{Whole}
-use Rattle.answer.specs.declared.Outcome.{Outcome}
-use Rattle.answer.specs.declared.Outcome.TheVariants.{Accepted, Refused}
 use Rattle.hosted.specs.Hosted.{is_on, as_float, byte_sizes, general_inputs, floats_of, host_sizes, room, delivered_by, delivered, hosted_by}
+use Rattle.judge.specs.Refusals.{number}
 use Rattle.judge.specs.Sizes.{count_good, room_good, sizes}
 use Rattle.classification.proofs.Plain.{plain_good}
 use Rattle.promises.specs.Numbers.{Numbered}
 use Rattle.promises.proofs.Numbers.{general_sized_number, c_sized_number, nu_sized_number, one_class_sized_number}
 use Rattle.tuning.specs.declared.Tuning.{Tuning}
 use Rattle.handed.specs.Trains.{largest, MayAnswer}
+use Rattle.std.specs.Prelude.{Result, Ok, Err}
+use Rattle.answer.specs.declared.Answer.{Answer}
+use Rattle.judge.specs.declared.Refusal.{Refusal}
+use Rattle.judge.specs.declared.Refusal.TheVariants.{Samples, Length}
 
 -- what holds of 0, 1 and 2, and of every number that the training is refused with, holds of the result
-module _ (P : ℕ → Type 0) (none : P 0) (one : P 1) (two : P 2) (n : ℕ) (w : Whole) (cr h an : List ℕ) (told : (q i : ℕ) → w.out ≡ Refused q i → P q) where
+module _ (P : ℕ → Type 0) (none : P 0) (one : P 1) (two : P 2) (n : ℕ) (w : Whole) (cr h an : List ℕ) (told : (q : Refusal) → w.out ≡ Err q → P (number q)) where
   delivered_code : P (delivered n w cr h an).code
   unfolding delivered delivered_by
   delivered_code = go w.out refl
     where
-      go : (o : Outcome) → w.out ≡ o → P (delivered_by n o w.left.crate w.left.home cr h an).code
-      go (Accepted x) e = none
-      go (Refused q i) e = told q i e
+      go : (o : Result Answer Refusal) → w.out ≡ o → P (delivered_by n o w.left.crate w.left.home cr h an).code
+      go (Ok x) e = none
+      go (Err q) e = told q e
 
   pub hosted_code : (inputs : Bool) (m : List ℕ) → P (hosted_by (byte_sizes n inputs m cr h an) (delivered n w cr h an) cr h an).code
   unfolding hosted_by host_sizes sizes
   hosted_code inputs m = go (count_good n) ((inputs && leb 72 (length an)) && room_good n (length m) _ _ 3584 1024 512)
     where
-      go : (a b : Bool) → P (hosted_by (cond a (cond b 0 2) 1) (delivered n w cr h an) cr h an).code
+      go : (a b : Bool) → P (hosted_by (cond a (cond b (Ok tt) (Err Length)) (Err Samples)) (delivered n w cr h an) cr h an).code
       go true true = delivered_code
       go true false = two
       go false b = one
@@ -49,13 +52,13 @@ small_number x shrinking q l = go (is_on shrinking) refl
     go true e = inl (rw e (omega arith))
     go false e = inl (rw e (omega arith))
 
-module _ (tune : Tuning) (shrinking n : ℕ) (w : Whole) (cr h an : List ℕ) (told : (q i : ℕ) → w.out ≡ Refused q i → Numbered tune.floor (is_on shrinking) q) where
+module _ (tune : Tuning) (shrinking n : ℕ) (w : Whole) (cr h an : List ℕ) (told : (q : Refusal) → w.out ≡ Err q → Numbered tune.floor (is_on shrinking) (number q)) where
   large : (q : ℕ) → Numbered tune.floor (is_on shrinking) q → MayAnswer tune.floor shrinking q
   large q (inl x) = inl x.1
   large q (inr x) = inr x
 
   numbered : (inputs : Bool) (m : List ℕ) → MayAnswer tune.floor shrinking (hosted_by (byte_sizes n inputs m cr h an) (delivered n w cr h an) cr h an).code
-  numbered = hosted_code (MayAnswer tune.floor shrinking) (small_number tune.floor shrinking 0 (omega arith)) (small_number tune.floor shrinking 1 (omega arith)) (small_number tune.floor shrinking 2 (omega arith)) n w cr h an (λ q i e. large q (told q i e))
+  numbered = hosted_code (MayAnswer tune.floor shrinking) (small_number tune.floor shrinking 0 (omega arith)) (small_number tune.floor shrinking 1 (omega arith)) (small_number tune.floor shrinking 2 (omega arith)) n w cr h an (λ q e. large (number q) (told q e))
 
 -- with the published Rust's floor
 pub plain_answers : (shrinking q : ℕ) → MayAnswer Weight.floor shrinking q → q ≤ largest shrinking

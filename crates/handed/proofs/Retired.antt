@@ -1,25 +1,25 @@
 -- Where `altuliscia_retired` answers 0, its training was accepted and every promise of it holds of the call, down to the bytes; what is lent for who is
 -- retired changes no byte; and with nobody retired it is `altuliscia_general` with shrinking off, refusals too. Assumes nothing.
 use Prim.Native.Nat.{ℕ, ◌*◌, ◌%◌, ◌^◌, ◌≤◌, ◌<◌}
-use mathlib.Core.Bool.{Bool, true, false, ◌&&◌, cond}
+use mathlib.Core.Bool.{Bool, true, false, ◌&&◌}
 use mathlib.Core.List.{List}
 use mathlib.Core.Logic.{inl, inr}
 use mathlib.Core.Path.{◌≡◌, refl, sym, ap, ◌∙◌}
 use native.Mathlib.Nat.{mod-eq_of_lt}
 use native.Mathlib.Omega.{arith}
-use borrow.Author.Tests.{eqb-true, eq-eqb}
+use borrow.Author.Tests.{eq-eqb}
 use lib.Dec.{T, eqb}
 use lib.Ieee.{Float, nan, binary64, to_bits, of_bits, fits}
 use lib.Ieee.Bits.{to_bits-lt}
 use lib.ListN.{length, get_or}
+use Rattle.std.specs.Prelude.{Some}
 use Rattle.alpha.specs.Weight as Weight
 use Rattle.altuliscia.specs.Functions.{general_host, general_host_by, retired_host}
 use Rattle.answer.specs.Lent.{Whole}
 use Rattle.answer.specs.declared.Answer.{Answer}
-use Rattle.answer.specs.declared.Outcome.TheVariants.{Accepted}
+use Rattle.judge.specs.Refusals.{number}
 use Rattle.boxed.specs.Range.{In}
-use Rattle.extreme.specs.declared.Choice.TheVariants.{Pair}
-use Rattle.hosted.specs.Hosted.{is_on, as_float, byte_sizes, general_inputs, floor_known, tuning_of, floats_of, room, Handed, handed, delivered, turned_away, hosted_by, answered_by}
+use Rattle.hosted.specs.Hosted.{is_on, as_float, byte_sizes, general_inputs, floor_known, tuning_of, floats_of, room, Handed, delivered, hosted_by, answered_by}
 use Rattle.hosted.proofs.Serves.{Serves, inputs_right, serves}
 use Rattle.hosted.proofs.Worked.{tuning_none}
 use Rattle.promises.specs.Fit.{Fit, weight_after}
@@ -27,7 +27,7 @@ use Rattle.promises.specs.Numbers.{RetiredNumbered}
 use Rattle.promises.specs.Retired.{retired_fit, silent_fit, after_over, weight_over, pair_over, delta_over, own_over}
 use Rattle.finder.proofs.Doubles.{Double}
 use Rattle.promises.proofs.Doubles.{taken_own_double}
-use Rattle.promises.proofs.Numbers.{retired_sized_number, some_retired}
+use Rattle.promises.proofs.Numbers.{retired_sized_number}
 use Rattle.promises.proofs.Retired.{taken_alike, taken_home, taken_reads, taken_travels, taken_pairs, taken_coded}
 use Rattle.promises.proofs.RetiredBox.{taken_box, taken_no_nan, taken_home_box}
 use Rattle.retired.specs.Differ.{Input, DifferRetired}
@@ -44,6 +44,8 @@ use Rattle.handed.specs.Trains.{RetiredMayAnswer}
 use Rattle.handed.proofs.Handed.{turned_not, Out, delivered_out, room_fits, decoded_double}
 use Rattle.handed.proofs.Numbers.{hosted_code}
 use Rattle.handed.proofs.Stored.{stored_at}
+use Rattle.std.specs.Prelude.{Ok, ⊤, Result, Err}
+use Rattle.judge.specs.declared.Refusal.{Refusal}
 
 module _ (n : ℕ) (m l c a p r : List ℕ) (nurule eps shrinking budget : ℕ) (t cr h an : List ℕ) (z : (retired_host n m l c a p r nurule eps shrinking budget t cr h an).code ≡ 0) where
   abbrev x : Input
@@ -61,7 +63,7 @@ module _ (n : ℕ) (m l c a p r : List ℕ) (nurule eps shrinking budget : ℕ) 
   abbrev inputs : Bool
   inputs = general_inputs n l c a p && eqb (length r) n && floor_known t
 
-  in_time : (byte_sizes n inputs m cr h an ≡ 0) × (o ≡ delivered n w cr h an)
+  in_time : (byte_sizes n inputs m cr h an ≡ Ok tt) × (o ≡ delivered n w cr h an)
   unfolding retired_host
   in_time = turned_not (byte_sizes n inputs m cr h an) (delivered n w cr h an) cr h an z
 
@@ -73,16 +75,14 @@ module _ (n : ℕ) (m l c a p r : List ℕ) (nurule eps shrinking budget : ℕ) 
 
   pub out : Out n w cr h an o
   out =
-      rw in_time.1 (delivered_out n w cr h an
-      (λ q i e. some_retired (tuning_of t).floor q (retired_sized_number (tuning_of t) n m l (floats_of c n) (floats_of a n) (floats_of p n) r (is_on nurule) (as_float eps) (is_on shrinking) budget room q i e))
-      (sym (ap (λ (q : Handed). q.code) in_time.1) ∙ z))
+      rw in_time.1 (delivered_out n w cr h an (sym (ap (λ (q : Handed). q.code) in_time.1) ∙ z))
 
   -- the tuning's length is known
   pub retired_called_tuned : floor_known t ≡ true
   retired_called_tuned = (both (general_inputs n l c a p && eqb (length r) n) (floor_known t) (inputs_right n inputs (length m) (length cr) (length h) (length an) in_time.0)).1
 
   -- the training was accepted, and its answer is what is written
-  pub retired_called : (z : Answer) × (w.out ≡ Accepted z) × (o.answer ≡ answered_by (Accepted z) an)
+  pub retired_called : (z : Answer) × (w.out ≡ Ok z) × (o.answer ≡ answered_by (Ok z) an)
   retired_called = (out.answer, out.accepted, out.told)
 
   -- so all that is promised of one holds
@@ -111,7 +111,7 @@ module _ (n : ℕ) (m l c a p r : List ℕ) (nurule eps shrinking budget : ℕ) 
   }
 
   -- both samples of a pair stand, and the code's run has the same weights after each pass
-  pub retired_called_pairs : (q i j : ℕ) → pair_over (stands_in r) k m room q ≡ Pair i j → ((i < n) × (stands_in r i ≡ true)) × ((j < n) × (stands_in r j ≡ true))
+  pub retired_called_pairs : (q i j : ℕ) → pair_over (stands_in r) k m room q ≡ Some (i, j) → ((i < n) × (stands_in r i ≡ true)) × ((j < n) × (stands_in r j ≡ true))
   retired_called_pairs = taken_pairs called_taken
 
   pub retired_called_coded : (q i : ℕ) → i < n → weight_after (silent_fit (tuning_of t) n x r (is_on nurule) (as_float eps)) m room q i ≡ weight_over (stands_in r) k m room q i
@@ -128,7 +128,7 @@ module _ (n : ℕ) (m l c a p r : List ℕ) (nurule eps shrinking budget : ℕ) 
     pub retired_called_box : (q i : ℕ) → i < n → stands_in r i ≡ true → In b (weight_over (stands_in r) k m room q i)
     retired_called_box = taken_box called_taken b fit same fit_a
 
-    pub retired_called_no_nan : (q i j : ℕ) → pair_over (stands_in r) k m room q ≡ Pair i j → NotNan (delta_over (stands_in r) k m room q i j)
+    pub retired_called_no_nan : (q i j : ℕ) → pair_over (stands_in r) k m room q ≡ Some (i, j) → NotNan (delta_over (stands_in r) k m room q i j)
     retired_called_no_nan = taken_no_nan called_taken b fit same fit_a
 
     pub retired_called_home_box : (s : ℕ) → s < n → stands_in r s ≡ true → In b (own_over (stands_in r) k m room budget s)
@@ -141,7 +141,7 @@ pub retired_called_number : (n : ℕ) (m l c a p r : List ℕ) (nurule eps shrin
 unfolding retired_host
 retired_called_number n m l c a p r nurule eps shrinking budget t cr h an =
     hosted_code (RetiredMayAnswer (tuning_of t).floor) (inl (omega arith, λ z. omega arith)) (inl (omega arith, λ z. omega arith)) (inl (omega arith, λ z. omega arith)) n _ cr h an
-    (λ q i e. large q (retired_sized_number (tuning_of t) n m l (floats_of c n) (floats_of a n) (floats_of p n) r (is_on nurule) (as_float eps) (is_on shrinking) budget room q i e))
+    (λ q e. large (number q) (retired_sized_number (tuning_of t) n m l (floats_of c n) (floats_of a n) (floats_of p n) r (is_on nurule) (as_float eps) (is_on shrinking) budget room q e))
     (general_inputs n l c a p && eqb (length r) n && floor_known t) m
   where
     large : (q : ℕ) → RetiredNumbered (tuning_of t).floor q → RetiredMayAnswer (tuning_of t).floor q
@@ -167,13 +167,10 @@ pub and_true : (b : Bool) → (b && true) ≡ b
 and_true true = refl
 and_true false = refl
 
-pub hosted_same : (number : ℕ) (w v : Handed) (cr h an : List ℕ) → (number ≡ 0 → w ≡ v) → hosted_by number w cr h an ≡ hosted_by number v cr h an
+pub hosted_same : (j : Result ⊤ Refusal) (w v : Handed) (cr h an : List ℕ) → (j ≡ Ok tt → w ≡ v) → hosted_by j w cr h an ≡ hosted_by j v cr h an
 unfolding hosted_by
-hosted_same number w v cr h an same = go (eqb number 0) refl
-  where
-    go : (b : Bool) → eqb number 0 ≡ b → cond b w (handed number cr h (turned_away number an)) ≡ cond b v (handed number cr h (turned_away number an))
-    go true e = same (eqb-true number 0 e)
-    go false e = refl
+hosted_same (Ok p) w v cr h an same = same refl
+hosted_same (Err refusal) w v cr h an same = refl
 
 pub retired_called_nobody : (n : ℕ) (m l c a p r : List ℕ) (nurule eps budget : ℕ) (t cr h an : List ℕ) → length r ≡ n → ((i : ℕ) → i < n → get_or r i 0 ≡ 0) → floor_known t ≡ true
     → retired_host n m l c a p r nurule eps 0 budget t cr h an ≡ general_host_by (tuning_of t) n m l c a p nurule eps 0 budget cr h an

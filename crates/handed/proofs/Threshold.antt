@@ -12,7 +12,6 @@ use Rattle.answer.specs.Lent.{Whole}
 use Rattle.answer.specs.declared.Answer.{Answer}
 use Rattle.answer.specs.declared.ExitReason.{ExitReason}
 use Rattle.answer.specs.declared.ExitReason.TheVariants.{ReachedThreshold, ReachedIterations}
-use Rattle.answer.specs.declared.Outcome.TheVariants.{Accepted}
 use Rattle.boxed.specs.Range.{Entry, Divides}
 use Rattle.hosted.specs.Hosted.{is_on, as_float, tuning_of, floats_of, room, Handed, answered_by}
 use Rattle.judge.proofs.Accepted.{floor_fine, general_fine, c_fine, nu_fine, one_class_fine}
@@ -32,20 +31,21 @@ use Rattle.handed.specs.Trains.{general_trains, c_trains, nu_trains, one_class_t
 use Rattle.handed.proofs.Handed.{Ran, general_ran, c_ran, nu_ran, one_class_ran}
 use Rattle.handed.proofs.Retired.{out, called_taken, answer_long}
 use Rattle.handed.proofs.Stored.{word_at}
+use Rattle.std.specs.Prelude.{Ok}
 
 -- the eighth word of an accepted answer
-reason_told : (x : Answer) (an : List ℕ) → 72 ≤ length an → digits (answered_by (Accepted x) an) 56 8 ≡ 0 → x.exit_reason ≡ ReachedThreshold
+reason_told : (x : Answer) (an : List ℕ) → 72 ≤ length an → digits (answered_by (Ok x) an) 56 8 ≡ 0 → x.exit_reason ≡ ReachedThreshold
 unfolding words_of reason_number
-reason_told x an long z = go x.exit_reason (sym (word_at (words_of (Accepted x)) an 9 7 long (omega arith)) ∙ z)
+reason_told x an long z = go x.exit_reason (sym (word_at (words_of (Ok x)) an 9 7 long (omega arith)) ∙ z)
   where
     go : (r : ExitReason) → reason_number r % 256 ^ 8 ≡ 0 → r ≡ ReachedThreshold
     go ReachedThreshold e = refl
     go ReachedIterations e = absurd (omega (arith, e))
 
 -- the seventh: as long as the count fits a word
-count_told : (x : Answer) (an : List ℕ) → 72 ≤ length an → x.iterations ≤ 10000000 → digits (answered_by (Accepted x) an) 48 8 ≡ x.iterations
+count_told : (x : Answer) (an : List ℕ) → 72 ≤ length an → x.iterations ≤ 10000000 → digits (answered_by (Ok x) an) 48 8 ≡ x.iterations
 unfolding words_of
-count_told x an long few = word_at (words_of (Accepted x)) an 9 6 long (omega arith) ∙ mod-eq_of_lt (omega arith)
+count_told x an long few = word_at (words_of (Ok x)) an 9 6 long (omega arith) ∙ mod-eq_of_lt (omega arith)
 
 pub ran_iterations : {k : Fit} {m cr h an : List ℕ} {budget : ℕ} {w : Whole} {o : Handed} → Ran k m cr h an budget w o → Counts k m room budget (digits o.answer 48 8)
 ran_iterations {an = an} r =

@@ -10,7 +10,7 @@ use borrow.Author.Tests.{leb-true, le-leb}
 use lib.Dec.{eqb, leb}
 use lib.ListN.{length}
 use Rattle.altuliscia.specs.Functions.{general_host_by, c_host_by, nu_host_by, one_class_host_by, general_host, c_host, nu_host, one_class_host}
-use Rattle.answer.specs.declared.Outcome.TheVariants.{Refused}
+use Rattle.judge.specs.Refusals.{number}
 use Rattle.hosted.specs.Hosted.{host_sizes, byte_sizes, general_inputs, tuning_known, tuning_of, Handed, handed, answered_by, padded, turned_away, hosted_by, widened, turned_wide, hosted_wide}
 use Rattle.hosted.proofs.Worked.{tuning_none}
 use Rattle.judge.specs.Sizes.{count_good, sizes}
@@ -28,6 +28,9 @@ use Rattle.handed.proofs.Leaves.{refused_leaves, general_called_leaves, c_called
 use Rattle.handed.proofs.Numbers.{general_called_number, c_called_number, nu_called_number, one_class_called_number, small_number}
 use Rattle.handed.proofs.Retired.{and_true}
 use Rattle.handed.proofs.Stored.{padded_word, padded_first, padded_beyond}
+use Rattle.std.specs.Prelude.{⊤, Result, Ok, Err}
+use Rattle.judge.specs.declared.Refusal.{Refusal}
+use Rattle.judge.specs.declared.Refusal.TheVariants.{Samples, Length}
 
 -- ---- an answer of 128 bytes
 
@@ -47,12 +50,12 @@ module _ (n : ℕ) (cr h an : List ℕ) where
         later = λ l s g. padded_word o.answer s (omega arith) g;
       }
 
-  away_wide : (q : ℕ) → q ≤ 14 → HandsWide n cr h an (handed q cr h (turned_wide q an))
+  away_wide : (q : Refusal) → number q ≤ 14 → HandsWide n cr h an (handed (number q) cr h (turned_wide q an))
   unfolding turned_wide
   away_wide q few = go (leb 128 (length an)) refl
     where
-      go : (b : Bool) → leb 128 (length an) ≡ b → HandsWide n cr h an (handed q cr h (cond b (padded (answered_by (Refused q 0) an)) an))
-      go true e = let l = leb-true 128 (length an) e in wide_back (refused_leaves n cr h an q 0 few (omega arith)) l
+      go : (b : Bool) → leb 128 (length an) ≡ b → HandsWide n cr h an (handed (number q) cr h (cond b (padded (answered_by (Err q) an)) an))
+      go true e = let l = leb-true 128 (length an) e in wide_back (refused_leaves n cr h an q few (omega arith)) l
       go false e = record {
         back = record {
           results = λ z. (refl, refl);
@@ -65,7 +68,7 @@ module _ (n : ℕ) (cr h an : List ℕ) where
         later = λ l. absurd (true≢false (sym (le-leb 128 (length an) l) ∙ e));
       }
 
-turned_some : (q : ℕ) → (q ≡ 1) ⊎ (q ≡ 2) → (1 ≤ q) × (q ≤ 14)
+turned_some : (q : Refusal) → (number q ≡ 1) ⊎ (number q ≡ 2) → (1 ≤ number q) × (number q ≤ 14)
 turned_some q (inl e) = (omega arith, omega arith)
 turned_some q (inr e) = (omega arith, omega arith)
 
@@ -83,27 +86,24 @@ module _ (n : ℕ) (inputs : Bool) (m t cr h an : List ℕ) (w : Handed) where
       let e : (inputs && tuning_known t && leb 128 (length an)) ≡ inputs = rw (known, le-leb 128 (length an) long) (and_true (inputs && true) ∙ and_true inputs) in
       rw e (go (byte_sizes n inputs m cr h an))
     where
-      turned : (q : ℕ) → handed q cr h (turned_wide q an) ≡ widened (handed q cr h (turned_away q an))
+      turned : (q : Refusal) → handed (number q) cr h (turned_wide q an) ≡ widened (handed (number q) cr h (turned_away q an))
       turned q = unfold turned_wide turned_away in rw (le-leb 128 (length an) long, le-leb 72 (length an) (omega arith))
 
-      go : (q : ℕ) → hosted_wide q w cr h an ≡ widened (hosted_by q w cr h an)
-      go q = unfold hosted_wide hosted_by in by (eqb q 0)
-        where
-          by : (b : Bool) → cond b (widened w) (handed q cr h (turned_wide q an)) ≡ widened (cond b w (handed q cr h (turned_away q an)))
-          by true = refl
-          by false = turned q
+      go : (j : Result ⊤ Refusal) → hosted_wide j w cr h an ≡ widened (hosted_by j w cr h an)
+      go (Ok x) = unfold hosted_wide hosted_by in refl
+      go (Err q) = unfold hosted_wide hosted_by in turned q
 
   -- else it is turned away
-  wide_away : (tuning_known t && leb 128 (length an)) ≡ false → (q : ℕ) × ((q ≡ 1) ⊎ (q ≡ 2)) × (tuned_back ≡ handed q cr h (turned_wide q an))
+  wide_away : (tuning_known t && leb 128 (length an)) ≡ false → (q : Refusal) × ((number q ≡ 1) ⊎ (number q ≡ 2)) × (tuned_back ≡ handed (number q) cr h (turned_wide q an))
   wide_away away = unfold host_sizes sizes in rw (third inputs (tuning_known t) (leb 128 (length an)) away) (go (count_good n))
     where
       third : (a b c : Bool) → (b && c) ≡ false → (a && b && c) ≡ false
       third true b c e = e
       third false b c e = refl
 
-      go : (b : Bool) → (q : ℕ) × ((q ≡ 1) ⊎ (q ≡ 2)) × (hosted_wide (cond b 2 1) w cr h an ≡ handed q cr h (turned_wide q an))
-      go true = (2, inr refl, unfold hosted_wide in refl)
-      go false = (1, inl refl, unfold hosted_wide in refl)
+      go : (b : Bool) → (q : Refusal) × ((number q ≡ 1) ⊎ (number q ≡ 2)) × (hosted_wide (cond b (Err Length) (Err Samples)) w cr h an ≡ handed (number q) cr h (turned_wide q an))
+      go true = (Length, inr refl, unfold hosted_wide in refl)
+      go false = (Samples, inl refl, unfold hosted_wide in refl)
 
   wide_called : tuned_back.code ≡ 0 → (tuning_known t ≡ true) × (128 ≤ length an) × (plain_back.code ≡ 0)
   wide_called z = go (tuning_known t && leb 128 (length an)) refl
@@ -119,7 +119,7 @@ module _ (n : ℕ) (inputs : Bool) (m t cr h an : List ℕ) (w : Handed) where
   wide_code : (P : ℕ → Type 0) → P 1 → P 2 → P plain_back.code → P tuned_back.code
   wide_code P one two plain = go (tuning_known t && leb 128 (length an)) refl
     where
-      small : (q : ℕ) → (q ≡ 1) ⊎ (q ≡ 2) → P q
+      small : (q : Refusal) → (number q ≡ 1) ⊎ (number q ≡ 2) → P (number q)
       small q (inl e) = rw e one
       small q (inr e) = rw e two
 
@@ -151,7 +151,7 @@ module _ (n : ℕ) (m l c a p : List ℕ) (nurule eps shrinking : ℕ) (budget :
   pub general_untuned : length t ≡ 0 → 128 ≤ length an → general_tuned_host n m l c a p nurule eps shrinking budget t cr h an ≡ widened (general_host n m l c a p nurule eps shrinking budget cr h an)
   general_untuned none long = general_tuned_is (untuned t none).0 long ∙ ap (λ (q : Tuning). widened (general_host_by q n m l c a p nurule eps shrinking budget cr h an)) (untuned t none).1
 
-  pub general_tuned_away : (tuning_known t && leb 128 (length an)) ≡ false → (q : ℕ) × ((q ≡ 1) ⊎ (q ≡ 2)) × (general_tuned_host n m l c a p nurule eps shrinking budget t cr h an ≡ handed q cr h (turned_wide q an))
+  pub general_tuned_away : (tuning_known t && leb 128 (length an)) ≡ false → (q : Refusal) × ((number q ≡ 1) ⊎ (number q ≡ 2)) × (general_tuned_host n m l c a p nurule eps shrinking budget t cr h an ≡ handed (number q) cr h (turned_wide q an))
   unfolding general_tuned_host
   general_tuned_away = wide_away n (general_inputs n l c a p) m t cr h an _
 
@@ -184,7 +184,7 @@ module _ (n : ℕ) (m l : List ℕ) (cpos cneg eps shrinking : ℕ) (budget : �
   pub c_untuned : length t ≡ 0 → 128 ≤ length an → c_tuned_host n m l cpos cneg eps shrinking budget t cr h an ≡ widened (c_host n m l cpos cneg eps shrinking budget cr h an)
   c_untuned none long = c_tuned_is (untuned t none).0 long ∙ ap (λ (q : Tuning). widened (c_host_by q n m l cpos cneg eps shrinking budget cr h an)) (untuned t none).1
 
-  pub c_tuned_away : (tuning_known t && leb 128 (length an)) ≡ false → (q : ℕ) × ((q ≡ 1) ⊎ (q ≡ 2)) × (c_tuned_host n m l cpos cneg eps shrinking budget t cr h an ≡ handed q cr h (turned_wide q an))
+  pub c_tuned_away : (tuning_known t && leb 128 (length an)) ≡ false → (q : Refusal) × ((number q ≡ 1) ⊎ (number q ≡ 2)) × (c_tuned_host n m l cpos cneg eps shrinking budget t cr h an ≡ handed (number q) cr h (turned_wide q an))
   unfolding c_tuned_host
   c_tuned_away = wide_away n (eqb (length l) n) m t cr h an _
 
@@ -217,7 +217,7 @@ module _ (n : ℕ) (m l : List ℕ) (nu eps shrinking : ℕ) (budget : ℕ) (t c
   pub nu_untuned : length t ≡ 0 → 128 ≤ length an → nu_tuned_host n m l nu eps shrinking budget t cr h an ≡ widened (nu_host n m l nu eps shrinking budget cr h an)
   nu_untuned none long = nu_tuned_is (untuned t none).0 long ∙ ap (λ (q : Tuning). widened (nu_host_by q n m l nu eps shrinking budget cr h an)) (untuned t none).1
 
-  pub nu_tuned_away : (tuning_known t && leb 128 (length an)) ≡ false → (q : ℕ) × ((q ≡ 1) ⊎ (q ≡ 2)) × (nu_tuned_host n m l nu eps shrinking budget t cr h an ≡ handed q cr h (turned_wide q an))
+  pub nu_tuned_away : (tuning_known t && leb 128 (length an)) ≡ false → (q : Refusal) × ((number q ≡ 1) ⊎ (number q ≡ 2)) × (nu_tuned_host n m l nu eps shrinking budget t cr h an ≡ handed (number q) cr h (turned_wide q an))
   unfolding nu_tuned_host
   nu_tuned_away = wide_away n (eqb (length l) n) m t cr h an _
 
@@ -250,7 +250,7 @@ module _ (n : ℕ) (m : List ℕ) (nu eps shrinking : ℕ) (budget : ℕ) (t cr 
   pub one_class_untuned : length t ≡ 0 → 128 ≤ length an → one_class_tuned_host n m nu eps shrinking budget t cr h an ≡ widened (one_class_host n m nu eps shrinking budget cr h an)
   one_class_untuned none long = one_class_tuned_is (untuned t none).0 long ∙ ap (λ (q : Tuning). widened (one_class_host_by q n m nu eps shrinking budget cr h an)) (untuned t none).1
 
-  pub one_class_tuned_away : (tuning_known t && leb 128 (length an)) ≡ false → (q : ℕ) × ((q ≡ 1) ⊎ (q ≡ 2)) × (one_class_tuned_host n m nu eps shrinking budget t cr h an ≡ handed q cr h (turned_wide q an))
+  pub one_class_tuned_away : (tuning_known t && leb 128 (length an)) ≡ false → (q : Refusal) × ((number q ≡ 1) ⊎ (number q ≡ 2)) × (one_class_tuned_host n m nu eps shrinking budget t cr h an ≡ handed (number q) cr h (turned_wide q an))
   unfolding one_class_tuned_host
   one_class_tuned_away = wide_away n true m t cr h an _
 

@@ -3,7 +3,7 @@ use Prim.Native.Nat.{ℕ, zero, suc, ◌+◌, ◌-◌, ◌*◌, ◌^◌, ◌≤�
 use mathlib.Core.Bool.{Bool, true, false, cond, true≢false}
 use mathlib.Core.List.{List, [], ◌∷◌}
 use mathlib.Core.Logic.{◌⊎◌, inl, inr}
-use mathlib.Core.Path.{◌≡◌, refl, sym, ◌∙◌}
+use mathlib.Core.Path.{◌≡◌, refl, sym, ap, ◌∙◌}
 use native.Mathlib.Nat.{mod-eq_of_lt}
 use native.Mathlib.Omega.{arith}
 use borrow.Author.Tests.{ltb-true, ltb-false, leb-true, le-ltb, eqb-true, eqb-false}
@@ -11,16 +11,17 @@ use lib.Dec.{ltb, leb}
 use lib.Ieee.{nan}
 use lib.ListN.{length, get_or}
 use Rattle.altuliscia.specs.Functions.{VotesHanded, votes_handed, votes_told, votes_host}
+use Rattle.std.specs.Prelude.{⊤, Result, Ok, Err}
 use Rattle.hosted.specs.Hosted.{words_to}
-use Rattle.judge.specs.declared.Judged.{Judged}
-use Rattle.judge.specs.declared.Judged.TheVariants.{Fine, Bad}
 use Rattle.judge.proofs.First.{Offends}
 use Rattle.rounding.proofs.Order.{both}
 use Rattle.promises.specs.Leaves.{Beyond}
 use Rattle.promises.proofs.Beyond.{beyond_refl}
-use Rattle.votes.specs.declared.Election.{Election}
+use Rattle.votes.specs.declared.Refusal.{Refusal}
+use Rattle.votes.specs.declared.Refusal.TheVariants.{Languages, Length, Counts}
+use Rattle.votes.specs.Refusals.{votes_number, votes_index}
 use Rattle.votes.specs.Votes.{Panel, pairs_of, sides_of, word_in, float_in, pair_sum, votes_for, total_to, winner_to, Wins}
-use Rattle.votes.specs.Entry.{languages_good, counts_good, votes_judged, Sized, votes_laid, election, voted_by, voted_on, election_told}
+use Rattle.votes.specs.Entry.{languages_good, counts_good, votes_judged, Sized, votes_laid, voted_by, voted_on, election_told}
 use Rattle.votes.proofs.Laws.{votes_total, votes_most, nan_votes, winner_below, winner_wins}
 use Rattle.votes.proofs.Pairs.{sides_ordered, pairs_few}
 use Rattle.votes.proofs.Refusals.{judged_fine, fine_languages, judged_bad}
@@ -29,14 +30,16 @@ use Rattle.handed.proofs.Stored.{word_at, words_beyond, vote_at, votes_long}
 
 -- ---- the answer's three words
 
-words : Election → List ℕ
-words e = e.number ∷ e.index ∷ e.winner ∷ []
+words : Result ℕ Refusal → List ℕ
+words (Ok w) = 0 ∷ 0 ∷ w ∷ []
+words (Err q) = votes_number q ∷ votes_index q ∷ 0 ∷ []
 
-told_words : (e : Election) (an : List ℕ) → election_told e an ≡ words_to (words e) an 3
+told_words : (e : Result ℕ Refusal) (an : List ℕ) → election_told e an ≡ words_to (words e) an 3
 unfolding election_told words_to words
-told_words e an = refl
+told_words (Ok w) an = refl
+told_words (Err q) an = refl
 
-told_word : (e : Election) (an : List ℕ) (s x : ℕ) → 24 ≤ length an → s < 3 → get_or (words e) s 0 ≡ x → x < 256 ^ 8 → word_in (election_told e an) s ≡ x
+told_word : (e : Result ℕ Refusal) (an : List ℕ) (s x : ℕ) → 24 ≤ length an → s < 3 → get_or (words e) s 0 ≡ x → x < 256 ^ 8 → word_in (election_told e an) s ≡ x
 told_word e an s x long h e' few = rw (told_words e an) (word_at (words e) an 3 s long h ∙ rw e' (mod-eq_of_lt few))
 
 -- the same votes total, and win, alike
@@ -58,9 +61,14 @@ module _ (k : ℕ) (l : Panel) (v an : List ℕ) where
   -- ---- where it answers 0: nothing is refused, and there is room for the answer
 
   pub record Elected (o : VotesHanded) : Type 0 where
-    pub fine : votes_judged k l v ≡ Fine
+    pub fine : votes_judged k l v ≡ Ok tt
     pub room : 24 ≤ length an
-    pub is : o ≡ votes_handed 0 (votes_laid (votes_for k l) v k) (election_told (election 0 0 (winner_to (votes_for k l) k + 1)) an)
+    pub is : o ≡ votes_handed 0 (votes_laid (votes_for k l) v k) (election_told (Ok (winner_to (votes_for k l) k + 1)) an)
+
+  some_number : (q : Refusal) → (1 ≤ votes_number q) × (votes_number q ≤ 2)
+  some_number Languages = (omega arith, omega arith)
+  some_number Length = (omega arith, omega arith)
+  some_number (Counts p) = (omega arith, omega arith)
 
   short_number : (b : Bool) → ◌≡◌ {A = ℕ} (cond b 2 1) 0 → ⊥
   short_number true h = omega arith
@@ -73,11 +81,11 @@ module _ (k : ℕ) (l : Panel) (v an : List ℕ) where
       short : VotesHanded
       short = votes_handed (cond (languages_good k) 2 1) v an
 
-      go : (b : Bool) → ltb (length an) 24 ≡ b → (j : Judged) → votes_judged k l v ≡ j → (cond b short (votes_told (voted_by j k l v) an)).code ≡ 0
+      go : (b : Bool) → ltb (length an) 24 ≡ b → (j : Result ⊤ Refusal) → votes_judged k l v ≡ j → (cond b short (votes_told (voted_by j k l v) an)).code ≡ 0
           → Elected (cond b short (votes_told (voted_by j k l v) an))
       go true e j f z = absurd (short_number (languages_good k) z)
-      go false e Fine f z = record { fine = f; room = ltb-false (length an) 24 e; is = refl }
-      go false e (Bad q i) f z = absurd (elim (judged_bad k l v q i f) [ inl x ↦ omega (arith, x.0, z) | inr x ↦ omega (arith, x.0, z) ])
+      go false e (Ok x) f z = record { fine = f; room = ltb-false (length an) 24 e; is = refl }
+      go false e (Err q) f z = let s = some_number q in absurd (omega arith)
 
   -- what that tells: from 2 to 12 languages, and a list of 8 bytes for each
   sized : {o : VotesHanded} → Elected o → Sized k l × (length v ≡ 8 * k)
@@ -94,7 +102,7 @@ module _ (k : ℕ) (l : Panel) (v an : List ℕ) where
       let w = winner_below (votes_for k l) k (omega (arith, s.0.some)) in
       rw e.is (record {
         votes = λ x h. vote_at (votes_for k l) v k x (omega (arith, s.1)) h ∙ mod-eq_of_lt (vote_small e x h);
-        winner = told_word (election 0 0 (winner_to (votes_for k l) k + 1)) an 2 _ e.room (omega arith) refl (omega (arith, w, s.0.most));
+        winner = told_word (Ok (winner_to (votes_for k l) k + 1)) an 2 _ e.room (omega arith) refl (omega (arith, w, s.0.most));
       })
 
   -- ---- where it answers 0, of the words that it wrote
@@ -127,6 +135,10 @@ module _ (k : ℕ) (l : Panel) (v an : List ℕ) where
 
   -- ---- whatever it answers
 
+  second : (q : Refusal) → (q ≡ Length) ⊎ Offends Counts (counts_good l.held l.valued) (pairs_of k) 0 q → votes_number q ≡ 2
+  second q (inl e) = ap votes_number e
+  second q (inr o) = ap votes_number o.refusal
+
   -- 1 exactly where there aren't 2 to 12 languages, else 0 or 2
   pub votes_called_number : ((votes_host k l v an).code ≤ 2) × ((votes_host k l v an).code ≡ 1 → languages_good k ≡ false) × (languages_good k ≡ false → (votes_host k l v an).code ≡ 1)
   unfolding votes_host voted_on voted_by
@@ -142,12 +154,12 @@ module _ (k : ℕ) (l : Panel) (v an : List ℕ) where
       one_two true e = (omega arith, λ q. absurd (omega (arith, q)), λ f. absurd (true≢false (sym e ∙ f)))
       one_two false e = (omega arith, λ q. e, λ f. refl)
 
-      go : (b : Bool) (j : Judged) → votes_judged k l v ≡ j → Numbered (cond b brief (votes_told (voted_by j k l v) an)).code
+      go : (b : Bool) (j : Result ⊤ Refusal) → votes_judged k l v ≡ j → Numbered (cond b brief (votes_told (voted_by j k l v) an)).code
       go true j f = one_two (languages_good k) refl
-      go false Fine f = (omega arith, λ q. absurd (omega (arith, q)), λ g. absurd (true≢false (sym (fine_languages k l v f) ∙ g)))
-      go false (Bad q i) f = elim (judged_bad k l v q i f) [
-        | inl x ↦ (omega (arith, x.0), λ g. x.1, λ g. x.0)
-        | inr x ↦ (omega (arith, x.0), λ g. absurd (omega (arith, x.0, g)), λ g. absurd (true≢false (sym x.1 ∙ g)))
+      go false (Ok x) f = (omega arith, λ q. absurd (omega (arith, q)), λ g. absurd (true≢false (sym (fine_languages k l v f) ∙ g)))
+      go false (Err q) f = elim (judged_bad k l v q f) [
+        | inl x ↦ let e : votes_number q ≡ 1 = ap votes_number x.0 in (omega arith, λ g. x.1, λ g. e)
+        | inr x ↦ let e = second q x.1 in (omega arith, λ g. absurd (omega (arith, e, g)), λ g. absurd (true≢false (sym x.0 ∙ g)))
       ]
 
   -- the votes and the answer
@@ -158,10 +170,10 @@ module _ (k : ℕ) (l : Panel) (v an : List ℕ) where
       brief : VotesHanded
       brief = votes_handed (cond (languages_good k) 2 1) v an
 
-      full : (e : Election) → Beyond 0 24 an (election_told e an)
+      full : (e : Result ℕ Refusal) → Beyond 0 24 an (election_told e an)
       full e = rw (told_words e an) (words_beyond (words e) an 3)
 
-      go : (b : Bool) → ltb (length an) 24 ≡ b → (j : Judged) → votes_judged k l v ≡ j → HandsVotes v an (cond b brief (votes_told (voted_by j k l v) an))
+      go : (b : Bool) → ltb (length an) 24 ≡ b → (j : Result ⊤ Refusal) → votes_judged k l v ≡ j → HandsVotes v an (cond b brief (votes_told (voted_by j k l v) an))
       go true e j f =
           let short = ltb-true (length an) 24 e in
           record {
@@ -172,26 +184,26 @@ module _ (k : ℕ) (l : Panel) (v an : List ℕ) where
             told = λ s. absurd (omega arith);
             nobody = λ s. absurd (omega arith);
           }
-      go false e Fine f =
+      go false e (Ok x) f =
           let room = ltb-false (length an) 24 e in
           record {
             votes = λ z. absurd (z refl);
             long = votes_long (votes_for k l) v k;
             answer = full _;
             short = λ s. absurd (omega arith);
-            told = λ s. told_word (election 0 0 (winner_to (votes_for k l) k + 1)) an 0 0 s (omega arith) refl (omega arith);
+            told = λ s. told_word (Ok (winner_to (votes_for k l) k + 1)) an 0 0 s (omega arith) refl (omega arith);
             nobody = λ s z. absurd (z refl);
           }
-      go false e (Bad q i) f =
+      go false e (Err q) f =
           let room = ltb-false (length an) 24 e in
-          let small : q ≤ 2 = elim (judged_bad k l v q i f) [ inl x ↦ omega (arith, x.0) | inr x ↦ omega (arith, x.0) ] in
+          let small = some_number q in
           record {
             votes = λ z. refl;
             long = refl;
             answer = full _;
             short = λ s. absurd (omega arith);
-            told = λ s. told_word (election q i 0) an 0 q s (omega arith) refl (omega arith);
-            nobody = λ s z. told_word (election q i 0) an 2 0 s (omega arith) refl (omega arith);
+            told = λ s. told_word (Err q) an 0 (votes_number q) s (omega arith) refl (omega arith);
+            nobody = λ s z. told_word (Err q) an 2 0 s (omega arith) refl (omega arith);
           }
 
   -- the answer's index: 0, or the first pair whose two counts differ
@@ -202,22 +214,22 @@ module _ (k : ℕ) (l : Panel) (v an : List ℕ) where
       Indexed : ℕ → Type 0
       Indexed i = (i ≡ 0) ⊎ FirstUnlike k l i
 
-      unlike : (q i : ℕ) → Offends 2 (counts_good l.held l.valued) (pairs_of k) 0 q i → FirstUnlike k l i
-      unlike q i o = record {
+      unlike : (q : Refusal) (o : Offends Counts (counts_good l.held l.valued) (pairs_of k) 0 q) → FirstUnlike k l o.at
+      unlike q o = record {
         below = omega (arith, o.below);
-        differ = eqb-false (word_in l.held i) (word_in l.valued i) o.bad;
+        differ = eqb-false (word_in l.held o.at) (word_in l.valued o.at) o.bad;
         before = λ p h. eqb-true (word_in l.held p) (word_in l.valued p) (o.before p (omega arith) h);
       }
 
-      go : (j : Judged) → votes_judged k l v ≡ j → Indexed (word_in (votes_told (voted_by j k l v) an).answer 1)
-      go Fine f = inl (told_word (election 0 0 (winner_to (votes_for k l) k + 1)) an 1 0 room (omega arith) refl (omega arith))
-      go (Bad q i) f = elim (judged_bad k l v q i f) [
-        | inl x ↦ inl (told_word (election q i 0) an 1 0 room (omega arith) x.2 (omega arith))
-        | inr x ↦ elim x.2 [
-          | inl y ↦ inl (told_word (election q i 0) an 1 0 room (omega arith) y (omega arith))
+      go : (j : Result ⊤ Refusal) → votes_judged k l v ≡ j → Indexed (word_in (votes_told (voted_by j k l v) an).answer 1)
+      go (Ok x) f = inl (told_word (Ok (winner_to (votes_for k l) k + 1)) an 1 0 room (omega arith) refl (omega arith))
+      go (Err q) f = elim (judged_bad k l v q f) [
+        | inl x ↦ inl (told_word (Err q) an 1 0 room (omega arith) (ap votes_index x.0) (omega arith))
+        | inr x ↦ elim x.1 [
+          | inl y ↦ inl (told_word (Err q) an 1 0 room (omega arith) (ap votes_index y) (omega arith))
           | inr y ↦
-              let few = leb-true k 12 (both (leb 2 k) (leb k 12) x.1).1 in
-              let small : i < 67 = omega (arith, y.below, pairs_few k few) in
-              inr (rw (told_word (election q i 0) an 1 i room (omega arith) refl (omega (arith, small))) (unlike q i y))
+              let few = leb-true k 12 (both (leb 2 k) (leb k 12) x.0).1 in
+              let small : y.at < 67 = omega (arith, y.below, pairs_few k few) in
+              inr (rw (told_word (Err q) an 1 y.at room (omega arith) (ap votes_index y.refusal) (omega (arith, small))) (unlike q y))
         ]
       ]

@@ -15,6 +15,7 @@ use Rattle.judge.specs.Sizes.{Room}
 use Rattle.judge.proofs.Lengths.{inputs_of, room_of, long_enough}
 use Rattle.hosted.specs.Hosted.{decoded_to, padded, floats_of, eights, host_sizes, Handed, handed, widened, fresh_places, fresh_floats, fresh_numbers, fresh_bytes, room}
 use Rattle.rounding.proofs.Order.{both}
+use Rattle.std.specs.Prelude.{Ok}
 
 pub record Serves (n m cr h an : ℕ) : Type 0 where
   pub room : Room n m 512 512 3584 1024 512
@@ -25,7 +26,7 @@ pub record Serves (n m cr h an : ℕ) : Type 0 where
 under : (n k : ℕ) → n ≤ k / 8 → 8 * n ≤ k
 under n k h = omega (arith, div-add-mod' k 8)
 
-module _ (n : ℕ) (inputs : Bool) (m cr h an : ℕ) (e : host_sizes n inputs m cr h an ≡ 0) where
+module _ (n : ℕ) (inputs : Bool) (m cr h an : ℕ) (e : host_sizes n inputs m cr h an ≡ Ok tt) where
   both_told : (inputs ≡ true) × (leb 72 an ≡ true)
   unfolding host_sizes
   both_told = both inputs (leb 72 an) (inputs_of n (inputs && leb 72 an) m (cr / 8) (h / 8) 3584 1024 512 e)
@@ -45,7 +46,7 @@ module _ (n : ℕ) (inputs : Bool) (m cr h an : ℕ) (e : host_sizes n inputs m 
       }
 
 -- with an answer of 128 bytes
-pub wide_right : (n : ℕ) (inputs known : Bool) (m cr h an : ℕ) → host_sizes n (inputs && known && leb 128 an) m cr h an ≡ 0 → (inputs ≡ true) × (128 ≤ an)
+pub wide_right : (n : ℕ) (inputs known : Bool) (m cr h an : ℕ) → host_sizes n (inputs && known && leb 128 an) m cr h an ≡ Ok tt → (inputs ≡ true) × (128 ≤ an)
 wide_right n inputs known m cr h an e =
     let p = both (inputs && known) (leb 128 an) (inputs_right n (inputs && known && leb 128 an) m cr h an e) in
     ((both inputs known p.0).0, leb-true 128 an p.1)

@@ -1,18 +1,19 @@
 -- Lists and answers as the host's bytes (the rule, section 'What a caller lends and gets').
-use Rattle.std.specs.Prelude.{ℕ, zero, suc, ◌+◌, ◌*◌, ◌/◌, ◌%◌, Bool, false, not, ◌&&◌, cond, List, eqb, leb, Float, length, get_or, set, replicate}
+use Rattle.std.specs.Prelude.{ℕ, zero, suc, ◌+◌, ◌*◌, ◌/◌, ◌%◌, Bool, false, not, ◌&&◌, cond, List, eqb, leb, Float, length, get_or, set, replicate, ⊤, Result, Ok, Err}
 use Rattle.std.specs.Float.{nan, binary64}
 use Rattle.std.specs.Float.Ieee.{of_bits}
 use Rattle.alpha.specs.Weight as Weight
 use Rattle.answer.specs.Answer.{words_of}
 use Rattle.answer.specs.Lent.{Lent, lent, Whole}
-use Rattle.answer.specs.declared.Outcome.{Outcome}
-use Rattle.answer.specs.declared.Outcome.TheVariants.{Accepted, Refused}
+use Rattle.judge.specs.Refusals.{number}
 use Rattle.judge.specs.Sizes.{sizes}
 use Rattle.modes.specs.declared.Mode.{Mode}
 use Rattle.modes.specs.declared.Mode.TheVariants.{Crate, Travelling}
 use Rattle.tuning.specs.Tuning.{tuned}
 use Rattle.tuning.specs.declared.Tuning.{Tuning}
 use Rattle.wire.specs.Wire.{digits, float_at, with_digits, with_float}
+use Rattle.answer.specs.declared.Answer.{Answer}
+use Rattle.judge.specs.declared.Refusal.{Refusal}
 
 -- d with the first floats of the bytes b
 unfoldable pub decoded_to : List ℕ → List Float → ℕ → List Float
@@ -30,7 +31,7 @@ words_to w out zero = out
 words_to w out (suc k) = with_digits (words_to w out k) (8 * k) (get_or w k 0) 8
 
 -- the answer's 72 bytes
-abbrev pub answered_by : Outcome → List ℕ → List ℕ
+abbrev pub answered_by : Result Answer Refusal → List ℕ → List ℕ
 answered_by o out = words_to (words_of o) out 9
 
 -- .. and of the tuned functions' 128: the seven words behind it are 0
@@ -78,10 +79,10 @@ abbrev pub eights : ℕ → ℕ → Bool
 eights n k = eqb (k / 8) n && eqb (k % 8) 0
 
 -- refusals 1 and 2: result lists in bytes, an answer of 72 bytes at least, and the working room that the call brings
-unfoldable pub host_sizes : ℕ → Bool → ℕ → ℕ → ℕ → ℕ → ℕ
+unfoldable pub host_sizes : ℕ → Bool → ℕ → ℕ → ℕ → ℕ → Result ⊤ Refusal
 host_sizes n inputs m cr h an = sizes n (inputs && leb 72 an) m (cr / 8) (h / 8) 3584 1024 512
 
-abbrev pub byte_sizes : ℕ → Bool → List ℕ → List ℕ → List ℕ → List ℕ → ℕ
+abbrev pub byte_sizes : ℕ → Bool → List ℕ → List ℕ → List ℕ → List ℕ → Result ⊤ Refusal
 byte_sizes n inputs m cr h an = host_sizes n inputs (length m) (length cr) (length h) (length an)
 
 abbrev pub general_inputs : ℕ → List ℕ → List ℕ → List ℕ → List ℕ → Bool
@@ -122,26 +123,28 @@ abbrev pub handed : ℕ → List ℕ → List ℕ → List ℕ → Handed
 handed k cr h an = record { code = k; crate = cr; home = h; answer = an }
 
 -- the readings c and r go out only where the run is accepted
-unfoldable pub delivered_by : ℕ → Outcome → List Float → List Float → List ℕ → List ℕ → List ℕ → Handed
-delivered_by n (Accepted a) c r cr h an = handed 0 (stored_to c cr n) (stored_to r h n) (answered_by (Accepted a) an)
-delivered_by n (Refused number index) c r cr h an = handed number cr h (answered_by (Refused number index) an)
+unfoldable pub delivered_by : ℕ → Result Answer Refusal → List Float → List Float → List ℕ → List ℕ → List ℕ → Handed
+delivered_by n (Ok a) c r cr h an = handed 0 (stored_to c cr n) (stored_to r h n) (answered_by (Ok a) an)
+delivered_by n (Err refusal) c r cr h an = handed (number refusal) cr h (answered_by (Err refusal) an)
 
 unfoldable pub delivered : ℕ → Whole → List ℕ → List ℕ → List ℕ → Handed
 delivered n w cr h an = delivered_by n w.out w.left.crate w.left.home cr h an
 
 -- refusals 1 and 2: an answer that is too short stays as it is
-unfoldable pub turned_away : ℕ → List ℕ → List ℕ
-turned_away number an = cond (leb 72 (length an)) (answered_by (Refused number 0) an) an
+unfoldable pub turned_away : Refusal → List ℕ → List ℕ
+turned_away refusal an = cond (leb 72 (length an)) (answered_by (Err refusal) an) an
 
-unfoldable pub hosted_by : ℕ → Handed → List ℕ → List ℕ → List ℕ → Handed
-hosted_by number w cr h an = cond (eqb number 0) w (handed number cr h (turned_away number an))
+unfoldable pub hosted_by : Result ⊤ Refusal → Handed → List ℕ → List ℕ → List ℕ → Handed
+hosted_by (Ok x) w cr h an = w
+hosted_by (Err refusal) w cr h an = handed (number refusal) cr h (turned_away refusal an)
 
 -- .. with an answer of 128 bytes
 abbrev pub widened : Handed → Handed
 widened w = handed w.code w.crate w.home (padded w.answer)
 
-unfoldable pub turned_wide : ℕ → List ℕ → List ℕ
-turned_wide number an = cond (leb 128 (length an)) (padded (answered_by (Refused number 0) an)) an
+unfoldable pub turned_wide : Refusal → List ℕ → List ℕ
+turned_wide refusal an = cond (leb 128 (length an)) (padded (answered_by (Err refusal) an)) an
 
-unfoldable pub hosted_wide : ℕ → Handed → List ℕ → List ℕ → List ℕ → Handed
-hosted_wide number w cr h an = cond (eqb number 0) (widened w) (handed number cr h (turned_wide number an))
+unfoldable pub hosted_wide : Result ⊤ Refusal → Handed → List ℕ → List ℕ → List ℕ → Handed
+hosted_wide (Ok x) w cr h an = widened w
+hosted_wide (Err refusal) w cr h an = handed (number refusal) cr h (turned_wide refusal an)

@@ -3,13 +3,16 @@
 
 ghost use Rattle.std.specs.Prelude.{◌≡◌, Bool, ℕ, ◌+◌, ◌*◌, ◌≤◌, ◌<◌, length};
 ghost use Rattle.answer.specs.Answer.{ratio_there, ratio_bits, reason_number, words_of};
+ghost use Rattle.judge.specs.Refusals.{number};
 ghost use Rattle.hosted.specs.Hosted.{decoded_to, stored_to, words_to, answered_by, eights, zeroed_to, padded, tuning_known, floor_known, floor_of, word_on, mode_of, tuning_of, host_sizes, Handed, handed, delivered_by, turned_away, turned_wide, fresh_places, fresh_floats, fresh_numbers, fresh_bytes, fresh_sheet};
 
 use alpha::Alpha;
-use answer::{ExitReason, Outcome, Ratio};
+use answer::{Answer, ExitReason};
+use judge::Refusal;
 use modes::Mode;
 use tuning::Tuning;
 
+#[tactic(auto, unfolding(crate::specs::Hosted::decoded_to))]
 pub fn decode(d: &mut [f64], b: &[u8], n: usize)
     requires { (n ≤ 512) × (n ≤ length d.old) × (8 * n ≤ length b.now) }
     ensures { d.new ≡ decoded_to b.now d.old n }
@@ -19,6 +22,7 @@ pub fn decode(d: &mut [f64], b: &[u8], n: usize)
     }
 }
 
+#[tactic(auto, unfolding(crate::specs::Hosted::stored_to))]
 fn store(b: &mut [u8], d: &[f64], n: usize)
     requires { (n ≤ 512) × (n ≤ length d.now) × (8 * n ≤ length b.old) }
     ensures { b.new ≡ stored_to d.now b.old n }
@@ -28,24 +32,24 @@ fn store(b: &mut [u8], d: &[f64], n: usize)
     }
 }
 
-fn ratio_there(r: Ratio) -> u64
+#[tactic(auto, unfolding(answer::specs::Answer::ratio_there))]
+fn ratio_there(r: Option<f64>) -> u64
     ensures { result ≡ ratio_there r }
 {
-    match r {
-        Ratio::Absent => 0,
-        Ratio::Present(_) => 1,
-    }
+    r.is_some() as u64
 }
 
-fn ratio_bits(r: Ratio) -> u64
+#[tactic(auto, unfolding(answer::specs::Answer::ratio_bits))]
+fn ratio_bits(r: Option<f64>) -> u64
     ensures { result ≡ ratio_bits r }
 {
     match r {
-        Ratio::Absent => 0,
-        Ratio::Present(x) => wire::pattern_of(x),
+        None => 0,
+        Some(x) => wire::pattern_of(x),
     }
 }
 
+#[tactic(auto, unfolding(answer::specs::Answer::reason_number))]
 fn reason_number(r: ExitReason) -> u64
     ensures { result ≡ reason_number r }
 {
@@ -55,37 +59,47 @@ fn reason_number(r: ExitReason) -> u64
     }
 }
 
-pub fn words_of(o: Outcome) -> [u64; 9]
+#[tactic(auto, unfolding(answer::specs::Answer::words_of))]
+pub fn words_of(o: Result<Answer, Refusal>) -> [u64; 9]
     ensures { (result ≡ words_of o) × (9 ≡ length result) }
 {
     match o {
-        Outcome::Refused(number, index) => [number, index as u64, 0, 0, 0, 0, 0, 0, 0],
-        Outcome::Accepted(a) => {
-            let rho = wire::pattern_of(a.rho);
-            let r = a.r;
-            let there = ratio_there(r);
-            let bits = ratio_bits(r);
-            let obj = wire::pattern_of(a.obj);
-            let why = a.exit_reason;
-            let reason = reason_number(why);
-            let passes = a.iterations as u64;
-            let support = a.support as u64;
-            [0, 0, rho, there, bits, obj, passes, reason, support]
-        }
+        Err(refusal) => [
+            refusal.number(),
+            refusal.index() as u64,
+            0,
+            0,
+            0,
+            0,
+            0,
+            0,
+            0,
+        ],
+        Ok(a) => [
+            0,
+            0,
+            wire::pattern_of(a.rho),
+            ratio_there(a.r),
+            ratio_bits(a.r),
+            wire::pattern_of(a.obj),
+            a.iterations as u64,
+            reason_number(a.exit_reason),
+            a.support as u64,
+        ],
     }
 }
 
+#[tactic(auto, unfolding(crate::specs::Hosted::words_to))]
 fn put_words(out: &mut [u8], w: [u64; 9])
     requires { 72 ≤ length out.old }
     ensures { out.new ≡ words_to w out.old 9 }
 {
     for k in 0..9 {
-        let x = w[k];
-        wire::put_word(out, 8 * k, x);
+        wire::put_word(out, 8 * k, w[k]);
     }
 }
 
-fn put_answer(out: &mut [u8], o: Outcome)
+fn put_answer(out: &mut [u8], o: Result<Answer, Refusal>)
     requires { 72 ≤ length out.old }
     ensures { out.new ≡ answered_by o out.old }
 {
@@ -93,6 +107,7 @@ fn put_answer(out: &mut [u8], o: Outcome)
 }
 
 // The words behind the answer's nine, where it has 128 bytes.
+#[tactic(auto, unfolding(crate::specs::Hosted::zeroed_to))]
 pub fn pad(out: &mut [u8])
     requires { 128 ≤ length out.old }
     ensures { out.new ≡ padded out.old }
@@ -109,13 +124,14 @@ pub fn is_tuning(t: &[u8]) -> bool
     (t.len() % 8 == 0) & (t.len() / 8 <= 2)
 }
 
-// .. where samples may be retired.
+// .. where samples may be retired: with the number of words as a parameter it would be no shorter.
 pub fn is_floor(t: &[u8]) -> bool
     ensures { result ≡ floor_known t.now }
 {
     (t.len() % 8 == 0) & (t.len() / 8 <= 1)
 }
 
+#[tactic(auto, unfolding(crate::specs::Hosted::floor_of))]
 fn floor_of(t: &[u8]) -> f64
     ensures { result ≡ floor_of t.now }
 {
@@ -126,6 +142,7 @@ fn floor_of(t: &[u8]) -> f64
 }
 
 // Whether the word that begins at byte `at` is there, and isn't 0.
+#[tactic(auto, unfolding(crate::specs::Hosted::word_on))]
 fn word_on(t: &[u8], at: usize) -> bool
     requires { at ≤ 8 }
     ensures { result ≡ word_on t.now at }
@@ -136,6 +153,7 @@ fn word_on(t: &[u8], at: usize) -> bool
     false
 }
 
+#[tactic(auto, unfolding(crate::specs::Hosted::mode_of))]
 fn mode_of(t: &[u8]) -> Mode
     ensures { result ≡ mode_of t.now }
 {
@@ -161,8 +179,16 @@ pub fn are_floats(n: usize, k: usize) -> bool
     (k / 8 == n) & (k % 8 == 0)
 }
 
-// 0 where the sizes are right, else 1 or 2.
-pub fn sized(n: usize, inputs: bool, m: usize, cr: usize, h: usize, answer: usize) -> u64
+// Refusals 1 and 2.
+#[tactic(auto, unfolding(crate::specs::Hosted::host_sizes))]
+pub fn sized(
+    n: usize,
+    inputs: bool,
+    m: usize,
+    cr: usize,
+    h: usize,
+    answer: usize,
+) -> Result<(), Refusal>
     ensures { result ≡ host_sizes n inputs m cr h answer }
 {
     judge::sized(
@@ -177,26 +203,31 @@ pub fn sized(n: usize, inputs: bool, m: usize, cr: usize, h: usize, answer: usiz
     )
 }
 
-// Refusals 1 and 2. An answer that is too short stays as it is.
-pub fn turn_away(answer: &mut [u8], number: u64)
-    ensures { answer.new ≡ turned_away number answer.old }
+// What C gets of refusals 1 and 2. An answer that is too short stays as it is.
+#[tactic(auto, unfolding(crate::specs::Hosted::turned_away))]
+pub fn turn_away(answer: &mut [u8], refusal: Refusal) -> u64
+    ensures { (result ≡ number refusal) × (answer.new ≡ turned_away refusal answer.old) }
 {
     if 72 <= answer.len() {
-        put_answer(answer, Outcome::Refused(number, 0));
+        put_answer(answer, Err(refusal));
     }
+    refusal.number()
 }
 
 // The same, of an answer of 128 bytes.
-pub fn turn_away_wide(answer: &mut [u8], number: u64)
-    ensures { answer.new ≡ turned_wide number answer.old }
+#[tactic(auto, unfolding(crate::specs::Hosted::turned_wide))]
+pub fn turn_away_wide(answer: &mut [u8], refusal: Refusal) -> u64
+    ensures { (result ≡ number refusal) × (answer.new ≡ turned_wide refusal answer.old) }
 {
     if 128 <= answer.len() {
-        put_answer(answer, Outcome::Refused(number, 0));
+        put_answer(answer, Err(refusal));
         pad(answer);
     }
+    refusal.number()
 }
 
 // The host's lists: the readings c and r go out only where the run is accepted.
+#[tactic(auto, unfolding(crate::specs::Hosted::delivered_by))]
 pub fn deliver(
     cr: &mut [u8],
     h: &mut [u8],
@@ -204,45 +235,47 @@ pub fn deliver(
     c: &[f64],
     r: &[f64],
     n: usize,
-    o: Outcome,
+    o: Result<Answer, Refusal>,
 ) -> u64
     requires { (n ≤ 512) × (n ≤ length c.now) × (n ≤ length r.now) × (8 * n ≤ length cr.old) × (8 * n ≤ length h.old) × (72 ≤ length answer.old) }
     ensures { ◌≡◌ {A = Handed} (handed result cr.new h.new answer.new)
         (delivered_by n o c.now r.now cr.old h.old answer.old) }
 {
+    put_answer(answer, o);
     match o {
-        Outcome::Accepted(_) => {
+        Ok(_) => {
             store(cr, c, n);
             store(h, r, n);
-            put_answer(answer, o);
             0
         }
-        Outcome::Refused(number, _) => {
-            put_answer(answer, o);
-            number
-        }
+        Err(refusal) => refusal.number(),
     }
 }
 
-// Working room. No proof unfolds the zeros of a list that a function hands out.
+// Working room. No proof unfolds the zeros of a list that a function hands out. Five functions, since five shut definitions stand in `room` and in
+// the promises about a call (crates/hosted/specs, `fresh_places` and its fellows), each opened by its name.
+#[tactic(auto, unfolding(crate::specs::Hosted::fresh_places))]
 pub fn places() -> [f64; 512]
     ensures { (result ≡ fresh_places) × (512 ≡ length result) }
 {
     [0.0; 512]
 }
 
+#[tactic(auto, unfolding(crate::specs::Hosted::fresh_floats))]
 pub fn floats() -> [f64; 3584]
     ensures { (result ≡ fresh_floats) × (3584 ≡ length result) }
 {
     [0.0; 3584]
 }
 
+#[tactic(auto, unfolding(crate::specs::Hosted::fresh_numbers))]
 pub fn numbers() -> [u64; 1024]
     ensures { (result ≡ fresh_numbers) × (1024 ≡ length result) }
 {
     [0; 1024]
 }
 
+#[tactic(auto, unfolding(crate::specs::Hosted::fresh_bytes))]
 pub fn bytes() -> [u8; 512]
     ensures { (result ≡ fresh_bytes) × (512 ≡ length result) }
 {
@@ -250,6 +283,7 @@ pub fn bytes() -> [u8; 512]
 }
 
 // For a training without an order table: five floats to a sample.
+#[tactic(auto, unfolding(crate::specs::Hosted::fresh_sheet))]
 pub fn sheet() -> [f64; 2560]
     ensures { (result ≡ fresh_sheet) × (2560 ≡ length result) }
 {

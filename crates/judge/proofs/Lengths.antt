@@ -3,9 +3,11 @@ use Prim.Native.Nat.{ℕ, ◌*◌, ◌≤◌}
 use mathlib.Core.Bool.{Bool, true, false, ◌&&◌, cond}
 use mathlib.Core.Path.{◌≡◌, refl, sym}
 use native.Mathlib.Nat.{mul-le-mul, le_of_eq}
-use native.Mathlib.Omega.{arith}
 use borrow.Author.Tests.{ltb-true, leb-true, eqb-true}
 use lib.Dec.{ltb, leb, eqb}
+use Rattle.std.specs.Prelude.{⊤, Result, Ok, Err}
+use Rattle.judge.specs.declared.Refusal.{Refusal}
+use Rattle.judge.specs.declared.Refusal.TheVariants.{Samples, Length}
 use Rattle.judge.specs.Sizes.{count_good, room_good, sizes, Room}
 use Rattle.rounding.proofs.Order.{both}
 
@@ -16,15 +18,16 @@ square h = mul-le-mul h h
 pub long_enough : (n l : ℕ) → eqb l n ≡ true → n ≤ l
 long_enough n l h = le_of_eq (sym (eqb-true l n h))
 
-nought : (a b : Bool) → ◌≡◌ {A = ℕ} (cond a (cond b 0 2) 1) 0 → (a ≡ true) × (b ≡ true)
-nought true true h = (refl, refl)
-nought true false h = let z : ⊥ = omega arith in absurd z
-nought false b h = let z : ⊥ = omega arith in absurd z
+-- of two tests, each with its refusal
+pub fine : (a b : Bool) → ◌≡◌ {A = Result ⊤ Refusal} (cond a (cond b (Ok tt) (Err Length)) (Err Samples)) (Ok tt) → (a ≡ true) × (b ≡ true)
+fine true true h = (refl, refl)
+fine true false h = let z : ⊥ = cc in absurd z
+fine false b h = let z : ⊥ = cc in absurd z
 
-module _ (n : ℕ) (inputs : Bool) (m rc rh f u y : ℕ) (h : sizes n inputs m rc rh f u y ≡ 0) where
+module _ (n : ℕ) (inputs : Bool) (m rc rh f u y : ℕ) (h : sizes n inputs m rc rh f u y ≡ Ok tt) where
   answers : (count_good n ≡ true) × ((inputs && room_good n m rc rh f u y) ≡ true)
   unfolding sizes
-  answers = nought (count_good n) (inputs && room_good n m rc rh f u y) h
+  answers = fine (count_good n) (inputs && room_good n m rc rh f u y) h
 
   pub inputs_of : inputs ≡ true
   inputs_of = (both inputs (room_good n m rc rh f u y) answers.1).0

@@ -2,10 +2,12 @@
 use Prim.Native.Nat.{ℕ}
 use mathlib.Core.Bool.{Bool, true, false}
 use mathlib.Core.List.{List, ◌∷◌, []}
+use Rattle.std.specs.Prelude.{Ok, Err}
 use mathlib.Core.Path.{◌≡◌, refl}
 use lib.Ieee.{Float, binary64, of_bits, neg, lt, le}
 use Rattle.alpha.specs.Weight.{limit, zero, one}
-use Rattle.judge.specs.declared.Judged.TheVariants.{Fine, Bad}
+use Rattle.judge.specs.declared.Refusal.{Refusal}
+use Rattle.judge.specs.declared.Refusal.TheVariants.{Samples, Length, Label, Ceiling, Linear, Eps, Budget, Retired, RetiredShrinking, Floor}
 use Rattle.judge.specs.Sizes.{sizes}
 use Rattle.judge.specs.Judge.{first, need, and_then, in_limit, is_ceiling, is_start, label_good, linear_good, cost_good, eps_good, nu_good, budget_good, floor_good, bytes_good, floor_judged, general_judged, retired_judged}
 
@@ -29,12 +31,12 @@ abbrev no_number : Float
 no_number = of_bits binary64 0x7ff8_0000_0000_0001
 
 -- 1 and 2: none, 512 and 513 samples, and one place too few or too many
-pub counts : (sizes 0 true 0 0 0 0 0 0 ≡ 1) × (sizes 512 true 2097152 512 512 3584 1024 512 ≡ 0) × (sizes 513 true 2105352 513 513 3591 1026 513 ≡ 1)
+pub counts : (sizes 0 true 0 0 0 0 0 0 ≡ Err Samples) × (sizes 512 true 2097152 512 512 3584 1024 512 ≡ Ok tt) × (sizes 513 true 2105352 513 513 3591 1026 513 ≡ Err Samples)
 unfolding sizes
 counts = (refl, refl, refl)
 
-pub rooms : (sizes 2 true 32 2 2 14 4 2 ≡ 0) × (sizes 2 false 32 2 2 14 4 2 ≡ 2) × (sizes 2 true 33 2 2 14 4 2 ≡ 2) × (sizes 2 true 32 1 2 14 4 2 ≡ 2)
-    × (sizes 2 true 32 2 1 14 4 2 ≡ 2) × (sizes 2 true 32 2 2 13 4 2 ≡ 2) × (sizes 2 true 32 2 2 14 3 2 ≡ 2) × (sizes 2 true 32 2 2 14 4 1 ≡ 2)
+pub rooms : (sizes 2 true 32 2 2 14 4 2 ≡ Ok tt) × (sizes 2 false 32 2 2 14 4 2 ≡ Err Length) × (sizes 2 true 33 2 2 14 4 2 ≡ Err Length) × (sizes 2 true 32 1 2 14 4 2 ≡ Err Length)
+    × (sizes 2 true 32 2 1 14 4 2 ≡ Err Length) × (sizes 2 true 32 2 2 13 4 2 ≡ Err Length) × (sizes 2 true 32 2 2 14 3 2 ≡ Err Length) × (sizes 2 true 32 2 2 14 4 1 ≡ Err Length)
 unfolding sizes
 rooms = (refl, refl, refl, refl, refl, refl, refl, refl)
 
@@ -44,7 +46,7 @@ unfolding of_bits neg le
 entries = (refl, refl, refl, refl, refl, refl)
 
 -- 4, with its index
-pub labels : (first 4 (label_good (0 ∷ 1 ∷ [])) 2 0 ≡ Fine) × (first 4 (label_good (1 ∷ 2 ∷ 3 ∷ [])) 3 0 ≡ Bad 4 1)
+pub labels : (first Label (label_good (0 ∷ 1 ∷ [])) 2 0 ≡ Ok tt) × (first Label (label_good (1 ∷ 2 ∷ 3 ∷ [])) 3 0 ≡ Err (Label 1))
 unfolding first label_good
 labels = (refl, refl)
 
@@ -53,7 +55,7 @@ pub ceilings : (is_ceiling limit ≡ true) × (is_ceiling over ≡ false) × (is
 unfolding of_bits lt le
 ceilings = (refl, refl, refl, refl, refl)
 
-pub costs : (first 5 (cost_good zero zero) 2 0 ≡ Bad 5 0) × (first 5 (cost_good one zero) 2 0 ≡ Bad 5 1) × (first 5 (cost_good one limit) 2 0 ≡ Fine)
+pub costs : (first Ceiling (cost_good zero zero) 2 0 ≡ Err (Ceiling 0)) × (first Ceiling (cost_good one zero) 2 0 ≡ Err (Ceiling 1)) × (first Ceiling (cost_good one limit) 2 0 ≡ Ok tt)
 unfolding first cost_good of_bits lt le
 costs = (refl, refl, refl)
 
@@ -63,7 +65,7 @@ unfolding of_bits neg le
 starts = (refl, refl, refl, refl, refl)
 
 -- 7
-pub linear : (first 7 (linear_good (over ∷ neg over ∷ [])) 2 0 ≡ Fine) × (first 7 (linear_good (zero ∷ neg infinity ∷ [])) 2 0 ≡ Bad 7 1) × (first 7 (linear_good (no_number ∷ [])) 1 0 ≡ Bad 7 0)
+pub linear : (first Linear (linear_good (over ∷ neg over ∷ [])) 2 0 ≡ Ok tt) × (first Linear (linear_good (zero ∷ neg infinity ∷ [])) 2 0 ≡ Err (Linear 1)) × (first Linear (linear_good (no_number ∷ [])) 1 0 ≡ Err (Linear 0))
 unfolding first linear_good of_bits neg
 linear = (refl, refl, refl)
 
@@ -79,7 +81,7 @@ nus = (refl, refl, refl, refl)
 
 -- 10, and the lower of two numbers
 pub budgets : (budget_good 0 ≡ false) × (budget_good 1 ≡ true) × (budget_good 10000000 ≡ true) × (budget_good 10000001 ≡ false)
-    × (and_then (need 8 false) (need 10 false) ≡ Bad 8 0) × (and_then (need 8 true) (need 10 false) ≡ Bad 10 0)
+    × (and_then (need Eps false) (need Budget false) ≡ Err Eps) × (and_then (need Eps true) (need Budget false) ≡ Err Budget)
 unfolding budget_good and_then
 budgets = (refl, refl, refl, refl, refl, refl)
 
@@ -95,28 +97,28 @@ unfolding bytes_good
 retireds = (refl, refl, refl)
 
 -- the order: what is judged before it, 14; in every entry
-pub fourteen_last : (x : Float) (q i : ℕ) → floor_judged x (Bad q i) ≡ Bad q i
+pub fourteen_last : (x : Float) (r : Refusal) → floor_judged x (Err r) ≡ Err r
 unfolding and_then
-fourteen_last x q i = refl
+fourteen_last x r = refl
 
-pub fourteen_then : (x : Float) → floor_good x ≡ false → floor_judged x Fine ≡ Bad 14 0
+pub fourteen_then : (x : Float) → floor_good x ≡ false → floor_judged x (Ok tt) ≡ Err Floor
 unfolding and_then
 fourteen_then x h = rw h
 
 -- .. then 12, 13
 module _ (x : Float) (n : ℕ) (m l : List ℕ) (c a p : List Float) (r : List ℕ) (eps : Float) (budget : ℕ) where
-  pub ten_before_fourteen : (q i : ℕ) (shrinking : Bool) → general_judged n m l c a p eps budget ≡ Bad q i → retired_judged x n m l c a p r eps shrinking budget ≡ Bad q i
+  pub ten_before_fourteen : (e : Refusal) (shrinking : Bool) → general_judged n m l c a p eps budget ≡ Err e → retired_judged x n m l c a p r eps shrinking budget ≡ Err e
   unfolding retired_judged and_then
-  ten_before_fourteen q i shrinking h = rw h
+  ten_before_fourteen e shrinking h = rw h
 
-  pub fourteen_before_twelve : (shrinking : Bool) → general_judged n m l c a p eps budget ≡ Fine → floor_good x ≡ false → retired_judged x n m l c a p r eps shrinking budget ≡ Bad 14 0
+  pub fourteen_before_twelve : (shrinking : Bool) → general_judged n m l c a p eps budget ≡ Ok tt → floor_good x ≡ false → retired_judged x n m l c a p r eps shrinking budget ≡ Err Floor
   unfolding retired_judged and_then
   fourteen_before_twelve shrinking h g = rw (h, g)
 
-  pub twelve_before_thirteen : (shrinking : Bool) → floor_judged x (general_judged n m l c a p eps budget) ≡ Fine → bytes_good r n ≡ false → retired_judged x n m l c a p r eps shrinking budget ≡ Bad 12 0
+  pub twelve_before_thirteen : (shrinking : Bool) → floor_judged x (general_judged n m l c a p eps budget) ≡ Ok tt → bytes_good r n ≡ false → retired_judged x n m l c a p r eps shrinking budget ≡ Err Retired
   unfolding retired_judged and_then
   twelve_before_thirteen shrinking h g = rw (h, g)
 
-  pub thirteen_last : floor_judged x (general_judged n m l c a p eps budget) ≡ Fine → bytes_good r n ≡ true → retired_judged x n m l c a p r eps true budget ≡ Bad 13 0
+  pub thirteen_last : floor_judged x (general_judged n m l c a p eps budget) ≡ Ok tt → bytes_good r n ≡ true → retired_judged x n m l c a p r eps true budget ≡ Err RetiredShrinking
   unfolding retired_judged and_then
   thirteen_last h g = rw (h, g)

@@ -1,33 +1,28 @@
--- Refusals 3 to 10 and 12 to 14: what an input must be, and which number and index is given where it isn't (the rule, section 'What a caller lends and gets').
-use Rattle.std.specs.Prelude.{ℕ, zero, suc, ◌*◌, Bool, true, false, not, ◌&&◌, cond, List, ltb, leb, get_or, Float}
+-- Refusals 3 to 10 and 12 to 14: what an input must be, and which refusal is given where it isn't (the rule, section 'What a caller lends and gets').
+use Rattle.std.specs.Prelude.{ℕ, zero, suc, ◌*◌, Bool, true, not, ◌&&◌, cond, List, ltb, leb, get_or, Float, ⊤, Result, Ok, Err}
 use Rattle.std.specs.Float.{nan}
 use Rattle.std.specs.Float.Ieee.{neg, lt, le}
 use Rattle.std.specs.Float.Ieee.Scale.{finite}
 use Rattle.alpha.specs.Weight.{limit, zero as nought, one}
 use Rattle.rounding.specs.Units.{negative}
 use Rattle.wire.specs.Wire.{float_at}
-use Rattle.judge.specs.declared.Judged.{Judged}
-use Rattle.judge.specs.declared.Judged.TheVariants.{Fine, Bad}
+use Rattle.judge.specs.declared.Refusal.{Refusal}
+use Rattle.judge.specs.declared.Refusal.TheVariants.{Kernel, Label, Ceiling, Alpha, Linear, Eps, Nu, Budget, Retired, RetiredShrinking, Floor}
 
--- ---- a number and an index
+-- ---- what is refused
 
--- of the m places from i on, the first that isn't good, with the number k
-unfoldable pub first : ℕ → (ℕ → Bool) → ℕ → ℕ → Judged
-first k good zero i = Fine
-first k good (suc m) i = cond (good i) (first k good m (suc i)) (Bad k i)
+-- of the m places from i on, the first that isn't good
+unfoldable pub first : {E : Type 0} → (ℕ → E) → (ℕ → Bool) → ℕ → ℕ → Result ⊤ E
+first refusal good zero i = Ok tt
+first refusal good (suc m) i = cond (good i) (first refusal good m (suc i)) (Err (refusal i))
 
--- a number with no index
-abbrev pub need : ℕ → Bool → Judged
-need k good = cond good Fine (Bad k 0)
+abbrev pub need : {E : Type 0} → E → Bool → Result ⊤ E
+need refusal good = cond good (Ok tt) (Err refusal)
 
--- b counts only where nothing was wrong before it: the first number is given
-unfoldable pub and_then : Judged → Judged → Judged
-and_then Fine b = b
-and_then (Bad k i) b = Bad k i
-
-abbrev pub is_bad : Judged → Bool
-is_bad Fine = false
-is_bad (Bad k i) = true
+-- b counts only where nothing was wrong before it: the first refusal is given
+unfoldable pub and_then : {E : Type 0} → Result ⊤ E → Result ⊤ E → Result ⊤ E
+and_then (Ok x) b = b
+and_then (Err refusal) b = Err refusal
 
 -- ---- what is good: no comparison with a NaN holds
 
@@ -89,40 +84,40 @@ bytes_good r (suc k) = bytes_good r k && leb (get_or r k 0) 1
 -- ---- the entries
 
 -- 14, behind all that an entry without a tuning judges: j is its verdict
-abbrev pub floor_judged : Float → Judged → Judged
-floor_judged x j = and_then j (need 14 (floor_good x))
+abbrev pub floor_judged : Float → Result ⊤ Refusal → Result ⊤ Refusal
+floor_judged x j = and_then j (need Floor (floor_good x))
 
 -- 3 and 4
-abbrev pub samples_judged : ℕ → List ℕ → List ℕ → Judged
-samples_judged n m l = and_then (first 3 (entry_good m) (n * n) 0) (first 4 (label_good l) n 0)
+abbrev pub samples_judged : ℕ → List ℕ → List ℕ → Result ⊤ Refusal
+samples_judged n m l = and_then (first Kernel (entry_good m) (n * n) 0) (first Label (label_good l) n 0)
 
 -- 3 to 8 and 10
-unfoldable pub general_judged : ℕ → List ℕ → List ℕ → List Float → List Float → List Float → Float → ℕ → Judged
+unfoldable pub general_judged : ℕ → List ℕ → List ℕ → List Float → List Float → List Float → Float → ℕ → Result ⊤ Refusal
 general_judged n m l c a p eps budget =
-    let j5 = and_then (samples_judged n m l) (first 5 (ceiling_good c) n 0) in
-    let j6 = and_then j5 (first 6 (alpha_good a c) n 0) in
-    let j7 = and_then j6 (first 7 (linear_good p) n 0) in
-    and_then (and_then j7 (need 8 (eps_good eps))) (need 10 (budget_good budget))
+    let j5 = and_then (samples_judged n m l) (first Ceiling (ceiling_good c) n 0) in
+    let j6 = and_then j5 (first Alpha (alpha_good a c) n 0) in
+    let j7 = and_then j6 (first Linear (linear_good p) n 0) in
+    and_then (and_then j7 (need Eps (eps_good eps))) (need Budget (budget_good budget))
 
 -- .. 14, 12 and 13: x is the floor, r are the retired bytes
-unfoldable pub retired_judged : Float → ℕ → List ℕ → List ℕ → List Float → List Float → List Float → List ℕ → Float → Bool → ℕ → Judged
+unfoldable pub retired_judged : Float → ℕ → List ℕ → List ℕ → List Float → List Float → List Float → List ℕ → Float → Bool → ℕ → Result ⊤ Refusal
 retired_judged x n m l c a p r eps shrinking budget =
-    and_then (and_then (floor_judged x (general_judged n m l c a p eps budget)) (need 12 (bytes_good r n))) (need 13 (not shrinking))
+    and_then (and_then (floor_judged x (general_judged n m l c a p eps budget)) (need Retired (bytes_good r n))) (need RetiredShrinking (not shrinking))
 
 -- 3, 4, 5, 8 and 10
-unfoldable pub c_judged : ℕ → List ℕ → List ℕ → Float → Float → Float → ℕ → Judged
+unfoldable pub c_judged : ℕ → List ℕ → List ℕ → Float → Float → Float → ℕ → Result ⊤ Refusal
 c_judged n m l cpos cneg eps budget =
-    let j5 = and_then (samples_judged n m l) (first 5 (cost_good cpos cneg) 2 0) in
-    and_then (and_then j5 (need 8 (eps_good eps))) (need 10 (budget_good budget))
+    let j5 = and_then (samples_judged n m l) (first Ceiling (cost_good cpos cneg) 2 0) in
+    and_then (and_then j5 (need Eps (eps_good eps))) (need Budget (budget_good budget))
 
 -- 3, 4 and 8 to 10
-unfoldable pub nu_judged : ℕ → List ℕ → List ℕ → Float → Float → ℕ → Judged
+unfoldable pub nu_judged : ℕ → List ℕ → List ℕ → Float → Float → ℕ → Result ⊤ Refusal
 nu_judged n m l nu eps budget =
-    let j8 = and_then (samples_judged n m l) (need 8 (eps_good eps)) in
-    and_then (and_then j8 (need 9 (nu_good nu))) (need 10 (budget_good budget))
+    let j8 = and_then (samples_judged n m l) (need Eps (eps_good eps)) in
+    and_then (and_then j8 (need Nu (nu_good nu))) (need Budget (budget_good budget))
 
 -- 3 and 8 to 10
-unfoldable pub one_class_judged : ℕ → List ℕ → Float → Float → ℕ → Judged
+unfoldable pub one_class_judged : ℕ → List ℕ → Float → Float → ℕ → Result ⊤ Refusal
 one_class_judged n m nu eps budget =
-    let j8 = and_then (first 3 (entry_good m) (n * n) 0) (need 8 (eps_good eps)) in
-    and_then (and_then j8 (need 9 (nu_good nu))) (need 10 (budget_good budget))
+    let j8 = and_then (first Kernel (entry_good m) (n * n) 0) (need Eps (eps_good eps)) in
+    and_then (and_then j8 (need Nu (nu_good nu))) (need Budget (budget_good budget))

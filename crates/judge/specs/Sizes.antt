@@ -1,5 +1,7 @@
 -- Refusals 1 and 2: how many samples, and the lengths of what is lent (the rule, section 'What a caller lends and gets').
-use Rattle.std.specs.Prelude.{ℕ, ◌*◌, ◌≤◌, Bool, ◌&&◌, cond, ◌≡◌, ltb, leb, eqb}
+use Rattle.std.specs.Prelude.{ℕ, ◌*◌, ◌≤◌, Bool, ◌&&◌, cond, ◌≡◌, ltb, leb, eqb, ⊤, Result, Ok, Err}
+use Rattle.judge.specs.declared.Refusal.{Refusal}
+use Rattle.judge.specs.declared.Refusal.TheVariants.{Samples, Length}
 
 abbrev pub count_good : ℕ → Bool
 count_good n = ltb 0 n && leb n 512
@@ -8,11 +10,11 @@ count_good n = ltb 0 n && leb n 512
 abbrev pub room_good : ℕ → ℕ → ℕ → ℕ → ℕ → ℕ → ℕ → Bool
 room_good n m rc rh f u y = eqb m (8 * (n * n)) && leb n rc && leb n rh && leb (7 * n) f && leb (2 * n) u && leb n y
 
--- 0, or the refusal's number; `inputs` says whether every other input list has n places
-unfoldable pub sizes : ℕ → Bool → ℕ → ℕ → ℕ → ℕ → ℕ → ℕ → ℕ
-sizes n inputs m rc rh f u y = cond (count_good n) (cond (inputs && room_good n m rc rh f u y) 0 2) 1
+-- `inputs` says whether every other input list has n places
+unfoldable pub sizes : ℕ → Bool → ℕ → ℕ → ℕ → ℕ → ℕ → ℕ → Result ⊤ Refusal
+sizes n inputs m rc rh f u y = cond (count_good n) (cond (inputs && room_good n m rc rh f u y) (Ok tt) (Err Length)) (Err Samples)
 
--- what a 0 says of the lengths
+-- what an Ok says of the lengths
 pub record Room (n m rc rh f u y : ℕ) : Type 0 where
   pub some : 1 ≤ n
   pub most : n ≤ 512

@@ -3,26 +3,76 @@
 
 ghost use Rattle.std.specs.Prelude.{not, ◌≡◌, ℕ, ◌*◌, ◌≤◌, length};
 ghost use Rattle.judge.specs.Sizes.{room_good, sizes};
-ghost use Rattle.judge.specs.Judge.{first, need, and_then, is_bad, is_ceiling, label_good, ceiling_good, cost_good, alpha_good, linear_good, eps_good, nu_good, budget_good, floor_judged, bytes_good};
+ghost use Rattle.judge.specs.Refusals.{number, index_of};
+ghost use Rattle.judge.specs.Judge.{first, need, is_ceiling, label_good, ceiling_good, cost_good, is_start, alpha_good, linear_good, eps_good, nu_good, budget_good, floor_good, bytes_good};
 
 use alpha::Alpha;
 
-// Fine, or a refusal's number and the offending index.
-#[derive(Clone, Copy)]
-pub enum Judged {
-    Fine,
-    Bad(u64, usize),
+// Why an input is refused, with the first offending index where there is one. The order is that of the numbers, 1 to 14.
+#[derive(Clone, Copy, Debug, PartialEq, Eq)]
+pub enum Refusal {
+    Samples,
+    Length,
+    Kernel(usize),
+    Label(usize),
+    Ceiling(usize),
+    Alpha(usize),
+    Linear(usize),
+    Eps,
+    Nu,
+    Budget,
+    ShrunkAway,
+    Retired,
+    RetiredShrinking,
+    Floor,
 }
 
-pub fn is_bad(j: Judged) -> bool
-    ensures { result ≡ is_bad j }
-{
-    match j {
-        Judged::Fine => false,
-        Judged::Bad(_, _) => true,
+impl Refusal {
+    // The number that C gets.
+    pub fn number(self) -> u64
+        ensures { result ≡ number self }
+    {
+        match self {
+            Refusal::Samples => 1,
+            Refusal::Length => 2,
+            Refusal::Kernel(_) => 3,
+            Refusal::Label(_) => 4,
+            Refusal::Ceiling(_) => 5,
+            Refusal::Alpha(_) => 6,
+            Refusal::Linear(_) => 7,
+            Refusal::Eps => 8,
+            Refusal::Nu => 9,
+            Refusal::Budget => 10,
+            Refusal::ShrunkAway => 11,
+            Refusal::Retired => 12,
+            Refusal::RetiredShrinking => 13,
+            Refusal::Floor => 14,
+        }
+    }
+
+    // 0 where there is none.
+    pub fn index(self) -> usize
+        ensures { result ≡ index_of self }
+    {
+        match self {
+            Refusal::Kernel(index)
+            | Refusal::Label(index)
+            | Refusal::Ceiling(index)
+            | Refusal::Alpha(index)
+            | Refusal::Linear(index) => index,
+            _ => 0,
+        }
     }
 }
 
+// What isn't good is refused.
+pub fn need<E: Copy>(good: bool, refusal: E) -> Result<(), E>
+    ensures { result ≡ need refusal good }
+{
+    if good { Ok(()) } else { Err(refusal) }
+}
+
+#[tactic(auto, using(crate::proofs::Lengths::square))]
 fn roomy(n: usize, m: usize, rc: usize, rh: usize, f: usize, u: usize, y: usize) -> bool
     requires { n ≤ 512 }
     ensures { result ≡ room_good n m rc rh f u y }
@@ -30,7 +80,8 @@ fn roomy(n: usize, m: usize, rc: usize, rh: usize, f: usize, u: usize, y: usize)
     (m == 8 * (n * n)) & (n <= rc) & (n <= rh) & (7 * n <= f) & (2 * n <= u) & (n <= y)
 }
 
-// 0 where the sizes are right, else 1 or 2. n may be any number at all.
+// Refusals 1 and 2. n may be any number at all.
+#[tactic(auto, unfolding(crate::specs::Sizes::sizes))]
 pub fn sized(
     n: usize,
     inputs: bool,
@@ -40,37 +91,25 @@ pub fn sized(
     f: usize,
     u: usize,
     y: usize,
-) -> u64
+) -> Result<(), Refusal>
     ensures { result ≡ sizes n inputs m rc rh f u y }
 {
-    if (0 < n) & (n <= 512) {
-        if inputs & roomy(n, m, rc, rh, f, u, y) {
-            0
-        } else {
-            2
-        }
-    } else {
-        1
-    }
+    need((0 < n) & (n <= 512), Refusal::Samples)?;
+    need(inputs & roomy(n, m, rc, rh, f, u, y), Refusal::Length)
 }
 
 // Refusal 4.
-pub fn labels_judged(j: Judged, l: &[u8], n: usize) -> Judged
+#[tactic(auto, using(crate::proofs::First::on, crate::proofs::First::stop, crate::proofs::First::done), unfolding(crate::specs::Judge::label_good))]
+pub fn labels_judged(l: &[u8], n: usize) -> Result<(), Refusal>
     requires { n ≤ length l.now }
-    ensures { result ≡ and_then j (first 4 (label_good l.now) n 0) }
+    ensures { result ≡ first Refusal.Label (label_good l.now) n 0 }
 {
-    if is_bad(j) {
-        return j;
-    }
-    let mut i: usize = 0;
-    while i < n {
-        if l[i] <= 1 {
-            i += 1;
-        } else {
-            return Judged::Bad(4, i);
+    for i in 0..n {
+        if l[i] > 1 {
+            return Err(Refusal::Label(i));
         }
     }
-    Judged::Fine
+    Ok(())
 }
 
 fn is_ceiling(c: f64) -> bool
@@ -80,130 +119,89 @@ fn is_ceiling(c: f64) -> bool
 }
 
 // Refusal 5, the general entry's.
-pub fn ceilings_judged(j: Judged, c: &[f64], n: usize) -> Judged
+#[tactic(auto, using(crate::proofs::First::on, crate::proofs::First::stop, crate::proofs::First::done), unfolding(crate::specs::Judge::ceiling_good))]
+pub fn ceilings_judged(c: &[f64], n: usize) -> Result<(), Refusal>
     requires { n ≤ length c.now }
-    ensures { result ≡ and_then j (first 5 (ceiling_good c.now) n 0) }
+    ensures { result ≡ first Refusal.Ceiling (ceiling_good c.now) n 0 }
 {
-    if is_bad(j) {
-        return j;
-    }
-    let mut i: usize = 0;
-    while i < n {
-        if is_ceiling(c[i]) {
-            i += 1;
-        } else {
-            return Judged::Bad(5, i);
+    for i in 0..n {
+        if !is_ceiling(c[i]) {
+            return Err(Refusal::Ceiling(i));
         }
     }
-    Judged::Fine
+    Ok(())
 }
 
 // Refusal 5, the C entry's.
-pub fn costs_judged(j: Judged, cpos: f64, cneg: f64) -> Judged
-    ensures { result ≡ and_then j (first 5 (cost_good cpos cneg) 2 0) }
+#[tactic(auto, unfolding(crate::specs::Judge::first, crate::specs::Judge::cost_good))]
+pub fn costs_judged(cpos: f64, cneg: f64) -> Result<(), Refusal>
+    ensures { result ≡ first Refusal.Ceiling (cost_good cpos cneg) 2 0 }
 {
-    if is_bad(j) {
-        return j;
-    }
-    if is_ceiling(cpos) {
-        if is_ceiling(cneg) {
-            return Judged::Fine;
-        }
-        return Judged::Bad(5, 1);
-    }
-    Judged::Bad(5, 0)
+    need(is_ceiling(cpos), Refusal::Ceiling(0))?;
+    need(is_ceiling(cneg), Refusal::Ceiling(1))
 }
 
 // Refusal 6.
-pub fn alphas_judged(j: Judged, a: &[f64], c: &[f64], n: usize) -> Judged
+#[tactic(auto, using(crate::proofs::First::on, crate::proofs::First::stop, crate::proofs::First::done), unfolding(crate::specs::Judge::alpha_good))]
+pub fn alphas_judged(a: &[f64], c: &[f64], n: usize) -> Result<(), Refusal>
     requires { (n ≤ length a.now) × (n ≤ length c.now) }
-    ensures { result ≡ and_then j (first 6 (alpha_good a.now c.now) n 0) }
+    ensures { result ≡ first Refusal.Alpha (alpha_good a.now c.now) n 0 }
 {
-    if is_bad(j) {
-        return j;
-    }
-    let mut i: usize = 0;
-    while i < n {
-        if (0.0 <= a[i]) & (a[i] <= c[i]) {
-            i += 1;
-        } else {
-            return Judged::Bad(6, i);
+    for i in 0..n {
+        if !((0.0 <= a[i]) & (a[i] <= c[i])) {
+            return Err(Refusal::Alpha(i));
         }
     }
-    Judged::Fine
+    Ok(())
 }
 
 // Refusal 7.
-pub fn linear_judged(j: Judged, p: &[f64], n: usize) -> Judged
+#[tactic(auto, using(crate::proofs::First::on, crate::proofs::First::stop, crate::proofs::First::done), unfolding(crate::specs::Judge::linear_good))]
+pub fn linear_judged(p: &[f64], n: usize) -> Result<(), Refusal>
     requires { n ≤ length p.now }
-    ensures { result ≡ and_then j (first 7 (linear_good p.now) n 0) }
+    ensures { result ≡ first Refusal.Linear (linear_good p.now) n 0 }
 {
-    if is_bad(j) {
-        return j;
-    }
-    let mut i: usize = 0;
-    while i < n {
-        if (-1.0 / 0.0 < p[i]) & (p[i] < 1.0 / 0.0) {
-            i += 1;
-        } else {
-            return Judged::Bad(7, i);
+    for i in 0..n {
+        if !((-1.0 / 0.0 < p[i]) & (p[i] < 1.0 / 0.0)) {
+            return Err(Refusal::Linear(i));
         }
     }
-    Judged::Fine
+    Ok(())
 }
 
 // Refusal 8: the patterns below the infinity's are those of finite numbers with a clear sign bit.
-pub fn eps_judged(j: Judged, eps: f64) -> Judged
-    ensures { result ≡ and_then j (need 8 (eps_good eps)) }
+#[tactic(auto, using(crate::proofs::Bits::eps_pattern))]
+pub fn eps_judged(eps: f64) -> Result<(), Refusal>
+    ensures { result ≡ need Refusal.Eps (eps_good eps) }
 {
-    if is_bad(j) {
-        return j;
-    }
-    if wire::pattern_of(eps) < 0x7ff0_0000_0000_0000 {
-        return Judged::Fine;
-    }
-    Judged::Bad(8, 0)
+    need(wire::pattern_of(eps) < 0x7ff0_0000_0000_0000, Refusal::Eps)
 }
 
 // Refusal 9.
-pub fn nu_of_judged(j: Judged, nu: f64) -> Judged
-    ensures { result ≡ and_then j (need 9 (nu_good nu)) }
+#[tactic(auto, unfolding(crate::specs::Judge::nu_good))]
+pub fn nu_of_judged(nu: f64) -> Result<(), Refusal>
+    ensures { result ≡ need Refusal.Nu (nu_good nu) }
 {
-    if is_bad(j) {
-        return j;
-    }
-    if (0.0 < nu) & (nu <= 1.0) {
-        return Judged::Fine;
-    }
-    Judged::Bad(9, 0)
+    need((0.0 < nu) & (nu <= 1.0), Refusal::Nu)
 }
 
 // Refusal 10.
-pub fn budget_judged(j: Judged, budget: u64) -> Judged
-    ensures { result ≡ and_then j (need 10 (budget_good budget)) }
+#[tactic(auto, unfolding(crate::specs::Judge::budget_good))]
+pub fn budget_judged(budget: u64) -> Result<(), Refusal>
+    ensures { result ≡ need Refusal.Budget (budget_good budget) }
 {
-    if is_bad(j) {
-        return j;
-    }
-    if (0 < budget) & (budget <= 10000000) {
-        return Judged::Fine;
-    }
-    Judged::Bad(10, 0)
+    need((0 < budget) & (budget <= 10000000), Refusal::Budget)
 }
 
 // Refusal 14.
-pub fn floor_judged(j: Judged, x: f64) -> Judged
-    ensures { result ≡ floor_judged x j }
+#[tactic(auto, unfolding(crate::specs::Judge::floor_good))]
+pub fn floor_judged(x: f64) -> Result<(), Refusal>
+    ensures { result ≡ need Refusal.Floor (floor_good x) }
 {
-    if is_bad(j) {
-        return j;
-    }
-    if (0.0 < x) & (x <= 1.0) {
-        return Judged::Fine;
-    }
-    Judged::Bad(14, 0)
+    need((0.0 < x) & (x <= 1.0), Refusal::Floor)
 }
 
+#[tactic(auto, unfolding(crate::specs::Judge::bytes_good))]
 fn bytes_good(r: &[u8], n: usize) -> bool
     requires { n ≤ length r.now }
     ensures { result ≡ bytes_good r.now n }
@@ -216,28 +214,16 @@ fn bytes_good(r: &[u8], n: usize) -> bool
 }
 
 // Refusal 12.
-pub fn retired_judged(j: Judged, r: &[u8], n: usize) -> Judged
+pub fn retired_judged(r: &[u8], n: usize) -> Result<(), Refusal>
     requires { n ≤ length r.now }
-    ensures { result ≡ and_then j (need 12 (bytes_good r.now n)) }
+    ensures { result ≡ need Refusal.Retired (bytes_good r.now n) }
 {
-    if is_bad(j) {
-        return j;
-    }
-    if bytes_good(r, n) {
-        return Judged::Fine;
-    }
-    Judged::Bad(12, 0)
+    need(bytes_good(r, n), Refusal::Retired)
 }
 
 // Refusal 13.
-pub fn shrinking_judged(j: Judged, shrinking: bool) -> Judged
-    ensures { result ≡ and_then j (need 13 (not shrinking)) }
+pub fn shrinking_judged(shrinking: bool) -> Result<(), Refusal>
+    ensures { result ≡ need Refusal.RetiredShrinking (not shrinking) }
 {
-    if is_bad(j) {
-        return j;
-    }
-    if shrinking {
-        return Judged::Bad(13, 0);
-    }
-    Judged::Fine
+    need(!shrinking, Refusal::RetiredShrinking)
 }

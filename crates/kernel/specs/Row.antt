@@ -1,8 +1,9 @@
 -- Row i: the matrix column of position i's sample, read at each position's sample (the rule, section 'Kernel column').
 use Rattle.std.specs.Prelude.{ℕ, ◌+◌, ◌*◌, ◌≤◌, ◌<◌, Bool, true, cond, List, eqb, Float, length, get_or}
 use Rattle.std.specs.Float.Ieee.{neg}
-use Rattle.kernel.specs.Matrix.{entry_at}
+use Rattle.kernel.specs.Matrix.{entry_at, Matrix}
 use Rattle.kernel.specs.declared.Kind.{Kind}
+use Rattle.kernel.specs.declared.Problem.{Problem}
 use Rattle.kernel.specs.declared.Kind.TheVariants.{TwoClass, OneClass}
 
 -- the kernel index of position k: the second field of the lent numbers
@@ -14,6 +15,10 @@ pub record Indexed (side n : ℕ) (u : List ℕ) : Type 0 where
   pub small : n ≤ 512
   pub long : 2 * n ≤ length u
   pub below : (k : ℕ) → k < n → kernel_index n u k < side
+
+-- a matrix, and for each position its kernel index in u and its label in y
+abbrev pub Readable : Problem → List ℕ → List ℕ → Type 0
+Readable p u y = Matrix p.side p.matrix.now × Indexed p.side p.n u × (p.n ≤ length y)
 
 -- whether an entry between labels a and b keeps its sign
 abbrev pub alike_of : Kind → ℕ → ℕ → Bool

@@ -11,11 +11,10 @@ use borrow.Author.Tests.{leb-true, leb-false}
 use lib.Dec.{T, T_not, not_T, leb}
 use lib.Ieee.{Float, nan, inf, lt, le, eq}
 use lib.ListN.{get_or}
+use Rattle.std.specs.Prelude.{Option, Some, None}
 use Rattle.extreme.specs.Best.{at_most, held, best}
 use Rattle.extreme.specs.Racing.{racing, below, place_in, race_of}
 use Rattle.extreme.specs.declared.Extreme.{Extreme}
-use Rattle.extreme.specs.declared.Found.{Found}
-use Rattle.extreme.specs.declared.Found.TheVariants.{At, Nobody}
 use Rattle.extreme.specs.declared.Race.{Race}
 use Rattle.extreme.proofs.Rule.{Rule, Ranks, Holds, Shut, around, best_rule}
 use Rattle.extreme.proofs.Tests.{at_most_ranks, last_least}
@@ -106,7 +105,7 @@ module _ (f : List Float) (o n : ℕ) where
     most : (j : ℕ) → j < count → T (le (of c) (of j))
     strict : (j : ℕ) → j < count → Beaten nu c j → T (lt (of c) (of j))
 
-  wins : (nu : Bool) (c : ℕ) → (least_by nu f o n count).holder ≡ At c → T (lt (of c) (inf false)) → Wins nu c
+  wins : (nu : Bool) (c : ℕ) → (least_by nu f o n count).holder ≡ Some c → T (lt (of c) (inf false)) → Wins nu c
   wins true c q x =
       let h = (best_rule below below_ranks (inf false) (λ j. true) of count).holds c q in
       let l = h.inside in
@@ -270,11 +269,11 @@ module _ (nu : Bool) (f : List Float) (o n : ℕ) where
       rule : Rule (inf false) (least_in f o n) (Holds (cond nu below at_most) (inf false) (λ j. true) (least_in f o n) (suc (n / 16))) (Shut (cond nu below at_most) (inf false) (λ j. true) (least_in f o n) (suc (n / 16))) E
       rule = best_rule (cond nu below at_most) (ranks nu) (inf false) (λ j. true) (least_in f o n) (suc (n / 16))
 
-      go : (q : Found) → E.holder ≡ q → Placed nu f o n (seat_in nu f r.value (o + r.at) (o + end_of r.at n - (o + r.at)))
-      go (At c) q =
-          let x : r ≡ racing (least_in f o n c) (16 * c) = e ∙ ap₂ (λ (v : Float) (q : Found). racing v (16 * place_in 0 q)) (rule.value_is c q) q in
+      go : (q : Option ℕ) → E.holder ≡ q → Placed nu f o n (seat_in nu f r.value (o + r.at) (o + end_of r.at n - (o + r.at)))
+      go (Some c) q =
+          let x : r ≡ racing (least_in f o n c) (16 * c) = e ∙ ap₂ (λ (v : Float) (q : Option ℕ). racing v (16 * place_in 0 q)) (rule.value_is c q) q in
           rw x (sought_placed c (wins f o n nu c q (rw x at h)))
-      go Nobody q = absurd (lt_irrefl (inf false) (subst (λ (v : Float). T (lt v (inf false))) (ap (λ (r : Race). r.value) e ∙ rule.start_is q) h))
+      go None q = absurd (lt_irrefl (inf false) (subst (λ (v : Float). T (lt v (inf false))) (ap (λ (r : Race). r.value) e ∙ rule.start_is q) h))
 
   pub placed_at : (r : Race) (e i : ℕ) → r ≡ sixteen_of nu f o n → lt r.value (inf false) ≡ true → e ≡ end_of r.at n
       → i ≡ seat_in nu f r.value (o + r.at) (o + e - (o + r.at)) → Placed nu f o n i

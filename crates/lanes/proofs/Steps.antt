@@ -11,9 +11,8 @@ use lib.ListN.{length, get_or, set}
 use lib.Seq.{get_or-set_same, get_or-set_other}
 use Rattle.extreme.specs.Best.{at_most, held, best}
 use Rattle.extreme.specs.Racing.{racing, below}
-use Rattle.extreme.specs.declared.Extreme.{Extreme}
 use Rattle.extreme.specs.declared.Race.{Race}
-use Rattle.lanes.specs.Lanes.{lower_of, least_of, least_from, least_to, least_in, least_by, begins, last_in, first_in}
+use Rattle.lanes.specs.Lanes.{least_of, least_from, least_to, least_in, least_by, begins, last_in, first_in}
 
 pub infinity_is : div binary64 (of_bits binary64 0x3ff0_0000_0000_0000) (of_bits binary64 0) ≡ inf false
 unfolding div of_bits
@@ -39,10 +38,6 @@ module _ (f : List Float) (t k : ℕ) (l : t ≤ k) where
   next : k + 1 - t ≡ suc (k - t)
   next = omega arith
 
-  pub to_more : least_to f t (k + 1 - t) ≡ lower_of (get_or f k nan) (least_to f t (k - t))
-  unfolding least_to
-  to_more = rw (next, far)
-
   pub last_more : (v : Float) → last_in f v t (k + 1 - t) ≡ cond (eq (get_or f k nan) v) k (last_in f v t (k - t))
   unfolding last_in
   last_more v = rw (next, far)
@@ -56,27 +51,26 @@ first_more f v d k e a b =
 
 -- ---- the sixteens raced
 
-module _ (f : List Float) (o n t : ℕ) (l : t ≡ 16 * (t / 16)) where
-  -- the sixteen at t
-  pub whole_is : t + 16 ≤ n → least_in f o n (t / 16) ≡ least_from f (o + t)
-  whole_is h = rw (← l, le-leb (t + 16) n h)
+module _ (f : List Float) (o n : ℕ) where
+  -- a whole one
+  pub whole_is : (j : ℕ) → 16 * j + 16 ≤ n → least_in f o n j ≡ least_from f (o + 16 * j)
+  whole_is j h = rw (le-leb (16 * j + 16) n h)
 
-  -- what is left over at t
-  pub rest_is : n < t + 16 → least_in f o n (t / 16) ≡ least_to f (o + t) (o + n - (o + t))
-  rest_is h =
-      let e : o + n - (o + t) ≡ n - t = omega arith in
-      rw (e, ← l, lt-leb (t + 16) n h)
+  -- what is left over behind the last
+  pub rest_is : least_in f o n (n / 16) ≡ least_to f (o + 16 * (n / 16)) (o + n - (o + 16 * (n / 16)))
+  rest_is =
+      let d : n < 16 * (n / 16) + 16 = omega arith in
+      let e : o + n - (o + 16 * (n / 16)) ≡ n - 16 * (n / 16) = omega arith in
+      rw (lt-leb (16 * (n / 16) + 16) n d, e)
 
-  module _ (nu : Bool) (v w : Float) (h : ℕ) (e : racing v h ≡ begins (least_by nu f o n (t / 16))) (q : least_in f o n (t / 16) ≡ w) where
-    abbrev so : Extreme
-    so = least_by nu f o n (t / 16)
-
-    weighed_is : least_by nu f o n (suc (t / 16)) ≡ cond (cond nu below at_most v w) (held w (t / 16)) so
+  module _ (j : ℕ) (nu : Bool) (v w : Float) (h : ℕ) (e : racing v h ≡ begins (least_by nu f o n j)) (q : least_in f o n j ≡ w) where
+    weighed_is : least_by nu f o n (suc j) ≡ cond (cond nu below at_most v w) (held w j) (least_by nu f o n j)
     unfolding best
-    weighed_is = rw q (ap (λ (x : Float). cond (cond nu below at_most x w) (held w (t / 16)) so) (sym (ap (λ (r : Race). r.value) e)))
+    weighed_is =
+        rw q (ap (λ (x : Float). cond (cond nu below at_most x w) (held w j) (least_by nu f o n j)) (sym (ap (λ (r : Race). r.value) e)))
 
-    pub turn_taken : cond nu below at_most v w ≡ true → racing w t ≡ begins (least_by nu f o n (suc (t / 16)))
-    turn_taken y = rw (weighed_is, y) (ap (racing w) l)
+    pub turn_taken : cond nu below at_most v w ≡ true → racing w (16 * j) ≡ begins (least_by nu f o n (suc j))
+    turn_taken y = rw (weighed_is, y)
 
-    pub turn_kept : cond nu below at_most v w ≡ false → racing v h ≡ begins (least_by nu f o n (suc (t / 16)))
+    pub turn_kept : cond nu below at_most v w ≡ false → racing v h ≡ begins (least_by nu f o n (suc j))
     turn_kept y = rw (weighed_is, y) e

@@ -9,6 +9,7 @@ ghost use Rattle.lanes.specs.Lanes.{lower_of, least_of, least_from, least_to, si
 
 use extreme::Race;
 
+// No closure in its place: the contracts of five functions speak of nu.
 fn less(nu: bool, b: f64, v: f64) -> bool
     ensures { result ≡ cond nu below at_most b v }
 {
@@ -38,6 +39,7 @@ fn least_from(f: &[f64], t: usize) -> f64
     ensures { result ≡ least_from f.now t }
 {
     let mut z = [0.0f64; 8];
+    // By k: each lane has two places of the sixteen.
     for k in 0..8 {
         z[k] = lower(f[t + 8 + k], lower(f[t + k], 1.0 / 0.0));
     }
@@ -50,8 +52,8 @@ fn least_to(f: &[f64], t: usize, e: usize) -> f64
     ensures { result ≡ least_to f.now t (e - t) }
 {
     let mut w = 1.0 / 0.0;
-    for k in t..e {
-        w = lower(f[k], w);
+    for &x in &f[t..e] {
+        w = lower(x, w);
     }
     w
 }
@@ -63,15 +65,15 @@ fn least(f: &[f64], o: usize, n: usize, nu: bool) -> Race
 {
     let mut v = 1.0 / 0.0;
     let mut h: usize = 0;
-    let mut t: usize = 0;
-    while t + 16 <= n {
+    for sixteen in 0..n / 16 {
+        let t = 16 * sixteen;
         let w = least_from(f, o + t);
         if less(nu, v, w) {
             v = w;
             h = t;
         }
-        t += 16;
     }
+    let t = 16 * (n / 16);
     let w = least_to(f, o + t, o + n);
     if less(nu, v, w) {
         v = w;
@@ -80,7 +82,7 @@ fn least(f: &[f64], o: usize, n: usize, nu: bool) -> Race
     Race { value: v, at: h }
 }
 
-// The last of t..e that equals v.
+// The last of t..e that equals v. By k, and not by `rposition`: no branch on what is found, and t where nothing is.
 fn last_in(f: &[f64], t: usize, e: usize, v: f64) -> usize
     requires { (t ≤ e) × (e ≤ length f.now) }
     ensures { result ≡ last_in f.now v t (e - t) }
@@ -98,9 +100,7 @@ fn first_in(f: &[f64], t: usize, e: usize, v: f64) -> usize
     ensures { result ≡ first_in f.now v t t (e - t) }
 {
     let mut i = t;
-    let mut k = e;
-    while k > t {
-        k -= 1;
+    for k in (t..e).rev() {
         i = if f[k] == v { k } else { i };
     }
     i
@@ -133,8 +133,7 @@ fn plainly(f: &[f64], o: usize, n: usize, nu: bool) -> Race
         value: 1.0 / 0.0,
         at: n,
     };
-    for k in 0..n {
-        let v = f[o + k];
+    for (k, &v) in f[o..o + n].iter().enumerate() {
         r = extreme::taken(r, less(nu, r.value, v), k, v);
     }
     r

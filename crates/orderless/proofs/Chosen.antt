@@ -6,21 +6,19 @@ use mathlib.Core.Logic.{◌⊎◌, inl, inr}
 use mathlib.Core.Path.{◌≡◌, refl, sym, ap, ap₂, ◌∙◌}
 use lib.Ieee.{Float, nan, inf, fin, binary64, of_bits, is_nan, neg, add, sub, lt}
 use lib.ListN.{get_or}
+use Rattle.std.specs.Prelude.{Option, Some, None, is_some}
 use Rattle.alpha.specs.Weight as Weight
 use Rattle.alpha.specs.Weight.{two}
 use Rattle.choose_c.specs.Choice.{extremes_c, choice_c}
 use Rattle.choose_nu.specs.Choice.{risen, fallen, choice_nu}
 use Rattle.extreme.specs.Best.{at_least, above, at_most, best}
 use Rattle.extreme.specs.Racing.{below}
-use Rattle.extreme.specs.declared.Choice.TheVariants.{Optimal}
 use Rattle.extreme.specs.declared.Extreme.{Extreme}
-use Rattle.extreme.specs.declared.Found.{Found}
-use Rattle.extreme.specs.declared.Found.TheVariants.{At, Nobody}
 use Rattle.floats.specs.Helpers.{max_of}
 use Rattle.kernel.specs.Curvature.{curved}
 use Rattle.kernel.specs.Row.{signed_of}
 use Rattle.partner.specs.Curvature.{curvature, gap_of, gain}
-use Rattle.partner.specs.Second.{is_at, place_of, agree, gap, follows, gain_of, second, paired, paired_with, choice}
+use Rattle.partner.specs.Second.{place_of, agree, gap, follows, gain_of, second, paired, paired_with, choice}
 use Rattle.partner.proofs.Rule.{at_place}
 use Rattle.partner.specs.Sides.{rise_of, fall_of, may_rise, may_fall, rise, fall}
 use Rattle.extreme.proofs.Alike.{best_eligible, over_alike}
@@ -182,7 +180,7 @@ module _ (g : Given) (m u y : List ℕ) (top : Bool → Float) (b : List Float) 
   -- who follows has a holder before it, the same in both
   record Followed (j : ℕ) : Type 0 where
     holder : (lead g.nu (positive_in y j)).holder ≡ (first (positive_in y j)).holder
-    someone : is_at (first (positive_in y j)).holder ≡ true
+    someone : is_some (first (positive_in y j)).holder ≡ true
     level : plain (gap p s (lead g.nu (positive_in y j)).value j) ≡ plain (rising g m y o j)
 
   follows_at : (j : ℕ) → j < g.n → (follows p s (lead g.nu) j ≡ lt Weight.zero (rising g m y o j)) × (lt Weight.zero (rising g m y o j) ≡ true → Followed j)
@@ -198,18 +196,18 @@ module _ (g : Given) (m u y : List ℕ) (top : Bool → Float) (b : List Float) 
       r = rising g m y o j
 
       go : (a : Bool) → may_fall p s j ≡ a → Same neg (inf true) (inf false) e x
-          → ((is_at e.holder && (a && lt Weight.zero (gap p s e.value j))) ≡ lt Weight.zero r) × (lt Weight.zero r ≡ true → Followed j)
-      go false h w = (shut (is_at e.holder) ∙ sym (never j J h), λ q. absurd (true≢false (sym q ∙ never j J h)))
+          → ((is_some e.holder && (a && lt Weight.zero (gap p s e.value j))) ≡ lt Weight.zero r) × (lt Weight.zero r ≡ true → Followed j)
+      go false h w = (shut (is_some e.holder) ∙ sym (never j J h), λ q. absurd (true≢false (sym q ∙ never j J h)))
       go true h (inl w) =
           let z : lt Weight.zero (gap p s e.value j) ≡ false = ap (lt Weight.zero) (gap_is (positive_in y j) e.value (gradient p s j)) ∙ rw w.0 (low_sum _) in
           let n : lt Weight.zero r ≡ false = sym (lt_level _ _ _ _ refl (gap_level j J h)) ∙ z in
-          (rw z (shut (is_at e.holder) ∙ sym n), λ q. absurd (true≢false (sym q ∙ n)))
+          (rw z (shut (is_some e.holder) ∙ sym n), λ q. absurd (true≢false (sym q ∙ n)))
       go true h (inr w) =
           let l = gap_level j J h in
           (rw (w.0, w.1) (lt_level _ _ _ _ refl l), λ q. record { holder = w.0; someone = w.1; level = l })
 
   -- the holder of a lead is a position
-  lead_below : (t : Bool) (i : ℕ) → (lead g.nu t).holder ≡ At i → i < g.n
+  lead_below : (t : Bool) (i : ℕ) → (lead g.nu t).holder ≡ Some i → i < g.n
   lead_below t i h = (best_eligible (cond g.nu above at_least) (inf true) (λ k. sought g.nu t (positive_in y k) && may_rise p s k) (rise p s) g.n i h).0
 
   pub diagonal_is : (k : ℕ) → k < g.n → diagonal p s k ≡ entry g m k k
@@ -239,7 +237,7 @@ module _ (g : Given) (m u y : List ℕ) (top : Bool → Float) (b : List Float) 
       (λ j. gain_by g m y o (place_of (first (positive_in y j)).holder) j) g.n
       (λ j J h. ((follows_at j J).0, λ q. let z = sym (follows_at j J).0 ∙ q in gain_same j J z ((follows_at j J).1 z)))
 
-  partner_follows : (j : ℕ) → (partner g m y o).holder ≡ At j → Followed j
+  partner_follows : (j : ℕ) → (partner g m y o).holder ≡ Some j → Followed j
   unfolding partner
   partner_follows j h =
       let w = best_eligible at_most (inf false) (λ j. lt Weight.zero (rising g m y o j)) (λ j. gain_by g m y o (place_of (first (positive_in y j)).holder) j) g.n j h in
@@ -251,9 +249,9 @@ module _ (g : Given) (m u y : List ℕ) (top : Bool → Float) (b : List Float) 
   unfolding choice choice_in
   choice_in_law =
       by_rule g.nu
-      ∙ ap₂ (λ (x : Bool) (e : Extreme). cond x Optimal (paired_with (λ j. (lead g.nu (positive_in y j)).holder) e.holder)) halts_same second_same
-      ∙ ap (cond (stops g m y o) Optimal) (go (partner g m y o).holder partner_follows)
+      ∙ ap₂ (λ (x : Bool) (e : Extreme). cond x None (paired_with (λ j. (lead g.nu (positive_in y j)).holder) e.holder)) halts_same second_same
+      ∙ ap (cond (stops g m y o) None) (go (partner g m y o).holder partner_follows)
     where
-      go : (h : Found) → ((j : ℕ) → h ≡ At j → Followed j) → paired_with (λ j. (lead g.nu (positive_in y j)).holder) h ≡ paired_with (λ j. (first (positive_in y j)).holder) h
-      go (At j) w = ap (λ (z : Found). paired z j) (w j refl).holder
-      go Nobody w = refl
+      go : (h : Option ℕ) → ((j : ℕ) → h ≡ Some j → Followed j) → paired_with (λ j. (lead g.nu (positive_in y j)).holder) h ≡ paired_with (λ j. (first (positive_in y j)).holder) h
+      go (Some j) w = ap (λ (z : Option ℕ). paired z j) (w j refl).holder
+      go None w = refl

@@ -9,7 +9,7 @@ use lib.Ieee.{Float, nan, inf, fin, binary64, fits, neg, lt, le, eq}
 use Rattle.extreme.specs.Best.{at_least, above, at_most, held, weighed, best}
 use Rattle.extreme.specs.Racing.{below}
 use Rattle.extreme.specs.declared.Extreme.{Extreme}
-use Rattle.partner.specs.Second.{is_at}
+use Rattle.std.specs.Prelude.{is_some}
 use Rattle.rounding.proofs.Nan.{lt_nan, le_nan, nan_lt, nan_le}
 use Rattle.orderless.specs.Plain.{plain}
 use Rattle.orderless.proofs.Plain.{neg_level, lt_level, le_level, lt_neg, le_neg, inf_same}
@@ -32,7 +32,7 @@ pub record Stands (takes takes' : Float → Float → Bool) (turn : Float → Fl
 -- the same holder and value, but for zero's sign; or nobody worth the name
 abbrev pub Same : (Float → Float) → Float → Float → Extreme → Extreme → Type 0
 Same turn start shut e x =
-    ((e.value ≡ start) × (x.value ≡ shut)) ⊎ ((e.holder ≡ x.holder) × (is_at x.holder ≡ true) × (plain e.value ≡ plain (turn x.value)))
+    ((e.value ≡ start) × (x.value ≡ shut)) ⊎ ((e.holder ≡ x.holder) × (is_some x.holder ≡ true) × (plain e.value ≡ plain (turn x.value)))
 
 module _ (takes takes' : Float → Float → Bool) (turn : Float → Float) (start shut : Float) (W : Stands takes takes' turn start shut) where
   pub value_level : (e x : Extreme) → Same turn start shut e x → plain e.value ≡ plain (turn x.value)

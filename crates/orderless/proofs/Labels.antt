@@ -10,17 +10,15 @@ use native.Mathlib.Omega.{arith}
 use lib.Dec.{eqb}
 use lib.Ieee.{Float, inf, binary64, of_bits, div, lt}
 use lib.ListN.{get_or}
+use Rattle.std.proofs.lemmas.Option.{none-some}
+use Rattle.std.specs.Prelude.{Option, Some, None}
 use Rattle.alpha.specs.Weight as Weight
 use Rattle.alpha.specs.Weight.{two}
 use Rattle.extreme.specs.Best.{at_least, above, at_most}
 use Rattle.extreme.specs.Racing.{below}
-use Rattle.extreme.specs.declared.Choice.{Choice}
-use Rattle.extreme.specs.declared.Choice.TheVariants.{Pair, Optimal}
-use Rattle.extreme.specs.declared.Found.{Found}
-use Rattle.extreme.specs.declared.Found.TheVariants.{At, Nobody}
 use Rattle.extreme.proofs.Alike.{over_alike, best_eligible}
-use Rattle.partner.specs.Second.{place_of, paired, paired_with}
-use Rattle.partner.proofs.Rule.{not_optimal}
+use Rattle.partner.specs.Second.{place_of, paired_with}
+use Rattle.partner.proofs.Rule.{paired_is}
 use Rattle.modes.specs.Modes.{repaired}
 use Rattle.rho.specs.Rho.{positive_in, middle, level_of}
 use Rattle.rho.specs.declared.Share.{Share}
@@ -46,35 +44,25 @@ spread_alike v w l (suc n) h = rw (spread_alike v w l n (λ k K. h k (omega arit
 
 -- ---- a pair in a sheet: both are samples
 
-of_pair : (h : Found) (a i j : ℕ) → paired h a ≡ Pair i j → (h ≡ At i) × (a ≡ j)
-of_pair (At k) a i j e = (ap At (left k a e), right k a e)
-  where
-    left : (k a : ℕ) → Pair k a ≡ Pair i j → k ≡ i
-    left k a e = cc
-
-    right : (k a : ℕ) → Pair k a ≡ Pair i j → a ≡ j
-    right k a e = cc
-of_pair Nobody a i j e = absurd (not_optimal i j e)
-
 module _ (g : Given) (m y : List ℕ) (o : Sheet) where
-  pub first_below : (t : Bool) (k : ℕ) → (lowest g m y o t).holder ≡ At k → k < g.n
+  pub first_below : (t : Bool) (k : ℕ) → (lowest g m y o t).holder ≡ Some k → k < g.n
   unfolding lowest
   first_below t k h = (best_eligible (cond g.nu below at_most) (inf false) (λ k. true) (o.up t) g.n k h).0
 
-  pub partner_below : (j : ℕ) → (partner g m y o).holder ≡ At j → j < g.n
+  pub partner_below : (j : ℕ) → (partner g m y o).holder ≡ Some j → j < g.n
   unfolding partner
   partner_below j q =
       (best_eligible at_most (inf false) (λ j. lt Weight.zero (rising g m y o j)) (λ j. gain_by g m y o (place_of (lowest g m y o (positive_in y j)).holder) j) g.n j q).0
 
-  pub pair_below : (i j : ℕ) → choice_in g m y o ≡ Pair i j → (i < g.n) × (j < g.n)
+  pub pair_below : (i j : ℕ) → choice_in g m y o ≡ Some (i, j) → (i < g.n) × (j < g.n)
   unfolding choice_in
   pair_below i j = go (stops g m y o) (partner g m y o).holder refl
     where
-      go : (x : Bool) (h : Found) → (partner g m y o).holder ≡ h → cond x Optimal (paired_with (λ j. (lowest g m y o (positive_in y j)).holder) h) ≡ Pair i j → (i < g.n) × (j < g.n)
-      go true h q e = absurd (not_optimal i j e)
-      go false Nobody q e = absurd (not_optimal i j e)
-      go false (At a) q e =
-          let r = of_pair (lowest g m y o (positive_in y a)).holder a i j e in
+      go : (x : Bool) (h : Option ℕ) → (partner g m y o).holder ≡ h → cond x None (paired_with (λ j. (lowest g m y o (positive_in y j)).holder) h) ≡ Some (i, j) → (i < g.n) × (j < g.n)
+      go true h q e = absurd (none-some (i, j) e)
+      go false None q e = absurd (none-some (i, j) e)
+      go false (Some a) q e =
+          let r = paired_is (lowest g m y o (positive_in y a)).holder a i j e in
           (first_below (positive_in y a) i r.0, omega (arith, partner_below a q, r.1))
 
 -- y and z are the labels of the samples
@@ -110,15 +98,15 @@ module _ (g : Given) (m y z : List ℕ) (top : Bool → Float) (E : (k : ℕ) �
         (λ j. gain_by g m y o (place_of (lowest g m y o (positive_in y j)).holder) j) (λ j. gain_by g m z o (place_of (lowest g m z o (positive_in z j)).holder) j) g.n
         (λ j J h. (ap (lt Weight.zero) (rising_alike j J), λ q. rw (pos j J)))
 
-    paired_alike : (h : Found) → ((j : ℕ) → h ≡ At j → j < g.n)
+    paired_alike : (h : Option ℕ) → ((j : ℕ) → h ≡ Some j → j < g.n)
         → paired_with (λ j. (lowest g m y o (positive_in y j)).holder) h ≡ paired_with (λ j. (lowest g m z o (positive_in z j)).holder) h
     unfolding lowest
-    paired_alike (At j) w = rw (pos j (w j refl))
-    paired_alike Nobody w = refl
+    paired_alike (Some j) w = rw (pos j (w j refl))
+    paired_alike None w = refl
 
     choice_alike : choice_in g m y o ≡ choice_in g m z o
     unfolding choice_in
-    choice_alike = rw (stops_alike, sym partner_alike) (ap (cond (stops g m z o) Optimal) (paired_alike (partner g m y o).holder (partner_below g m y o)))
+    choice_alike = rw (stops_alike, sym partner_alike) (ap (cond (stops g m z o) None) (paired_alike (partner g m y o).holder (partner_below g m y o)))
 
     -- ---- the step
 
@@ -151,12 +139,12 @@ module _ (g : Given) (m y z : List ℕ) (top : Bool → Float) (E : (k : ℕ) �
 
   -- ---- the run
 
-  pass_alike : (v : Course) (c : Choice) → choice_in g m z (read_in g.nu g.n v.floats) ≡ c → passes g m y top v c ≡ passes g m z top v c
+  pass_alike : (v : Course) (c : Option (ℕ × ℕ)) → choice_in g m z (read_in g.nu g.n v.floats) ≡ c → passes g m y top v c ≡ passes g m z top v c
   unfolding passes
-  pass_alike v (Pair i j) e =
+  pass_alike v (Some (i, j)) e =
       let b = pair_below g m z (read_in g.nu g.n v.floats) i j e in
       ap (λ (f : List Float). course f (v.steps + 1) true) (steps_alike v.floats i j b.0 b.1)
-  pass_alike v Optimal e = refl
+  pass_alike v None e = refl
 
   goes_alike : (v : Course) (t : ℕ) → goes_on g m y top v t ≡ goes_on g m z top v t
   unfolding goes_on

@@ -5,8 +5,7 @@ use mathlib.Core.List.{List}
 use mathlib.Core.Path.{◌≡◌, refl, ap, ◌∙◌}
 use lib.Ieee.{Float}
 use lib.ListN.{length}
-use Rattle.extreme.specs.declared.Choice.{Choice}
-use Rattle.extreme.specs.declared.Choice.TheVariants.{Pair, Optimal}
+use Rattle.std.specs.Prelude.{Option, Some, None}
 use Rattle.solver.specs.End.{trained}
 use Rattle.solver.specs.Pass.{chosen, counted_down, stepped, looked, worked_by, onward, passed, next, runs}
 use Rattle.solver.specs.Run.{problem_of, Full, full, goes, ready_of}
@@ -53,7 +52,7 @@ module _ (g : Given) (m u y : List ℕ) (top : Bool → Float) (b : List Float) 
   goes_with : (w : Full) (v : Course) → Beside w v → goes w.run.status ≡ v.going
   goes_with w v B = ap goes B.status ∙ goes_is v.going
 
-  step_beside : (w : Full) (v : Course) → v.going ≡ true → Beside w v → (i j : ℕ) → i < g.n → j < g.n → Beside (stepped g m b w i j) (passes g m y top v (Pair i j))
+  step_beside : (w : Full) (v : Course) → v.going ≡ true → Beside w v → (i j : ℕ) → i < g.n → j < g.n → Beside (stepped g m b w i j) (passes g m y top v (Some (i, j)))
   unfolding passes stepped
   step_beside w v h B i j I J = record {
     floats = updated p b g.mode g.floor (state B.floats u y) i j g.n;
@@ -65,12 +64,12 @@ module _ (g : Given) (m u y : List ℕ) (top : Bool → Float) (b : List Float) 
     active = B.active;
   }
 
-  worked_beside : (w : Full) (v : Course) → v.going ≡ true → Beside w v → (c : Choice) → chosen g m w ≡ c → Beside (worked_by g m b w c) (passes g m y top v c)
+  worked_beside : (w : Full) (v : Course) → v.going ≡ true → Beside w v → (c : Option (ℕ × ℕ)) → chosen g m w ≡ c → Beside (worked_by g m b w c) (passes g m y top v c)
   unfolding worked_by looked passes
-  worked_beside w v h B (Pair i j) q =
+  worked_beside w v h B (Some (i, j)) q =
       let r = rw B.active at (chosen_below g m w i j q) in
       step_beside w v h B i j r.0 r.1
-  worked_beside w v h B Optimal q = rw (refreshed_off g m w B.active, q) (record {
+  worked_beside w v h B None q = rw (refreshed_off g m w B.active, q) (record {
     floats = B.floats;
     state = B.state;
     mirrors = B.mirrors;

@@ -8,11 +8,10 @@ use native.Mathlib.Omega.{arith}
 use lib.Dec.{T}
 use lib.Ieee.{Float, nan, inf, fin, binary64, fits, is_nan, up, down, neg, add, sub, lt, le}
 use lib.Ieee.Fits.{inf-fits}
+use Rattle.std.specs.Prelude.{Option, Some, None}
 use Rattle.alpha.specs.Weight as Weight
 use Rattle.extreme.specs.Best.{at_least, above, at_most, held, best}
 use Rattle.extreme.specs.Racing.{below}
-use Rattle.extreme.specs.declared.Found.{Found}
-use Rattle.extreme.specs.declared.Found.TheVariants.{At, Nobody}
 use Rattle.extreme.proofs.Tests.{last_greatest, first_greatest}
 use Rattle.floats.specs.Helpers.{max_of}
 use Rattle.rho.specs.Rho.{positive_in}
@@ -107,14 +106,14 @@ module _ (may : ℕ → Bool) (value : ℕ → Float) (n j : ℕ) (J : j < n) (a
   reached : (nu : Bool) → T (le (value j) (best (cond nu above at_least) (inf true) may value n).value)
   reached true = go (best above (inf true) may value n).holder refl
     where
-      go : (h : Found) → (best above (inf true) may value n).holder ≡ h → T (le (value j) (best above (inf true) may value n).value)
-      go (At i) q = let r = first_greatest may value n in rw (r.value_is i q) ((r.holds i q).most j J asked real)
-      go Nobody q = absurd (not_number ((first_greatest may value n).nobody.0 q j J asked))
+      go : (h : Option ℕ) → (best above (inf true) may value n).holder ≡ h → T (le (value j) (best above (inf true) may value n).value)
+      go (Some i) q = let r = first_greatest may value n in rw (r.value_is i q) ((r.holds i q).most j J asked real)
+      go None q = absurd (not_number ((first_greatest may value n).nobody.0 q j J asked))
   reached false = go (best at_least (inf true) may value n).holder refl
     where
-      go : (h : Found) → (best at_least (inf true) may value n).holder ≡ h → T (le (value j) (best at_least (inf true) may value n).value)
-      go (At i) q = let r = last_greatest may value n in rw (r.value_is i q) ((r.holds i q).most j J asked real)
-      go Nobody q = absurd ((last_greatest may value n).nobody.0 q j J asked real)
+      go : (h : Option ℕ) → (best at_least (inf true) may value n).holder ≡ h → T (le (value j) (best at_least (inf true) may value n).value)
+      go (Some i) q = let r = last_greatest may value n in rw (r.value_is i q) ((r.holds i q).most j J asked real)
+      go None q = absurd ((last_greatest may value n).nobody.0 q j J asked real)
 
 module _ (g : Given) (m y : List ℕ) (o : Sheet) (ups : (t : Bool) (k : ℕ) → k < g.n → T (fits binary64 (o.up t k)))
     (downs : (k : ℕ) → k < g.n → T (fits binary64 (o.down k))) where

@@ -7,10 +7,9 @@ use native.Mathlib.Nat.{eq-zero-or-pos}
 use native.Mathlib.Omega.{arith}
 use lib.Dec.{T, T_not}
 use lib.Ieee.{Float, inf, lt, le}
+use Rattle.std.specs.Prelude.{Option, Some, None}
 use Rattle.extreme.specs.Best.{at_most, held, best}
 use Rattle.extreme.specs.Racing.{below}
-use Rattle.extreme.specs.declared.Found.{Found}
-use Rattle.extreme.specs.declared.Found.TheVariants.{At, Nobody}
 use Rattle.extreme.proofs.Rule.{Ranks, Holds, best_rule, extreme_is}
 use Rattle.extreme.proofs.Tests.{at_most_ranks}
 use Rattle.rounding.specs.Units.{NotNan}
@@ -43,12 +42,12 @@ module _ (takes : Float → Float → Bool) (ranks : Ranks takes) (start : Float
   pub best_at : (i : ℕ) → Holds takes start may value n i → best takes start may value n ≡ held (value i) i
   best_at i h = go (best takes start may value n).holder refl
     where
-      go : (e : Found) → (best takes start may value n).holder ≡ e → best takes start may value n ≡ held (value i) i
-      go (At k) q =
+      go : (e : Option ℕ) → (best takes start may value n).holder ≡ e → best takes start may value n ≡ held (value i) i
+      go (Some k) q =
           let r = best_rule takes ranks start may value n in
           let e : k ≡ i = only k i (r.holds k q) h in
-          extreme_is (best takes start may value n) (value i) (At i) (r.value_is k q ∙ ap value e) (q ∙ ap At e)
-      go Nobody q = absurd (T_not (takes start (value i)) ((best_rule takes ranks start may value n).nobody.0 q i h.inside h.eligible) h.enters)
+          extreme_is (best takes start may value n) (value i) (Some i) (r.value_is k q ∙ ap value e) (q ∙ ap Some e)
+      go None q = absurd (T_not (takes start (value i)) ((best_rule takes ranks start may value n).nobody.0 q i h.inside h.eligible) h.enters)
 
 -- ---- the least of a list's copies, from its words
 

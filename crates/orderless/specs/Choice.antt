@@ -1,12 +1,10 @@
 -- The pair, by plain folds over the copies (the rule, section 'Without an order table').
-use Rattle.std.specs.Prelude.{ℕ, Bool, true, false, cond, List, Float}
+use Rattle.std.specs.Prelude.{ℕ, Bool, true, false, cond, List, Float, Option, None}
 use Rattle.std.specs.Float.{inf, binary64}
 use Rattle.std.specs.Float.Ieee.{sub, lt}
 use Rattle.alpha.specs.Weight.{zero}
 use Rattle.extreme.specs.Best.{at_least, above, at_most, best}
 use Rattle.extreme.specs.Racing.{below}
-use Rattle.extreme.specs.declared.Choice.{Choice}
-use Rattle.extreme.specs.declared.Choice.TheVariants.{Optimal}
 use Rattle.extreme.specs.declared.Extreme.{Extreme}
 use Rattle.floats.specs.Helpers.{max_of}
 use Rattle.partner.specs.Curvature.{curvature, gain}
@@ -43,5 +41,5 @@ module _ (g : Given) (m y : List ℕ) (o : Sheet) where
   unfoldable pub partner : Extreme
   partner = best at_most (inf false) (λ j. lt zero (rising j)) (λ j. gain_by (place_of (lowest (positive_in y j)).holder) j) g.n
 
-  unfoldable pub choice_in : Choice
-  choice_in = cond stops Optimal (paired_with (λ j. (lowest (positive_in y j)).holder) partner.holder)
+  unfoldable pub choice_in : Option (ℕ × ℕ)
+  choice_in = cond stops None (paired_with (λ j. (lowest (positive_in y j)).holder) partner.holder)

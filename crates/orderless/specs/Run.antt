@@ -1,10 +1,8 @@
 -- Start and run of a training without an order table (the rule, section 'Without an order table'): no counter, no second look, nothing active or inactive.
-use Rattle.std.specs.Prelude.{ℕ, zero, suc, ◌+◌, Bool, true, false, cond, List, Float, get_or, set}
+use Rattle.std.specs.Prelude.{ℕ, zero, suc, ◌+◌, Bool, true, false, cond, List, Float, get_or, set, Option, Some, None}
 use Rattle.std.specs.Float.{nan, binary64}
 use Rattle.std.specs.Float.Ieee.{mul, eq}
 use Rattle.alpha.specs.Weight as Weight
-use Rattle.extreme.specs.declared.Choice.{Choice}
-use Rattle.extreme.specs.declared.Choice.TheVariants.{Pair, Optimal}
 use Rattle.kernel.specs.Row.{signed_of}
 use Rattle.rho.specs.Rho.{positive_in}
 use Rattle.solver.specs.declared.Given.{Given}
@@ -55,9 +53,9 @@ module _ (g : Given) (m y : List ℕ) (top : Bool → Float) where
 
   -- ---- passes
 
-  unfoldable pub passes : Course → Choice → Course
-  passes v (Pair i j) = course (steps g m y top v.floats i j) (v.steps + 1) true
-  passes v Optimal = course v.floats v.steps false
+  unfoldable pub passes : Course → Option (ℕ × ℕ) → Course
+  passes v (Some (i, j)) = course (steps g m y top v.floats i j) (v.steps + 1) true
+  passes v None = course v.floats v.steps false
 
   -- the first t passes
   unfoldable pub goes_on : Course → ℕ → Course

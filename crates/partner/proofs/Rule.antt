@@ -4,25 +4,22 @@ use Prim.Native.Nat.{ℕ}
 use mathlib.Core.Bool.{Bool, true, false, ◌&&◌, cond, true≢false}
 use mathlib.Core.Logic.{◌⊎◌, inl, inr, ◌↔◌}
 use mathlib.Core.Path.{◌≡◌, refl, sym, ap, ap₂, ◌∙◌}
-use native.Mathlib.Omega.{arith}
 use lib.Dec.{T}
 use lib.Ieee.{Float, binary64, inf, add, lt}
 use lib.Ieee.Fits.{and_l, and_r}
+use Rattle.std.proofs.lemmas.Option.{none-some, same_Some}
+use Rattle.std.specs.Prelude.{Option, Some, None, is_some}
 use Rattle.alpha.specs.Weight.{zero}
 use Rattle.extreme.specs.Best.{at_most, best}
 use Rattle.extreme.specs.Rule.{LastLeast}
 use Rattle.extreme.proofs.Rule.{Words, top_of, top_is}
 use Rattle.extreme.proofs.Tests.{last_least, least_words}
-use Rattle.extreme.specs.declared.Choice.{Choice}
 use Rattle.extreme.specs.declared.Extreme.{Extreme}
-use Rattle.extreme.specs.declared.Found.{Found}
-use Rattle.extreme.specs.declared.Found.TheVariants.{At, Nobody}
-use Rattle.extreme.specs.declared.Choice.TheVariants.{Pair, Optimal}
 use Rattle.state.specs.Lists.{Problem, State}
 use Rattle.state.specs.Fields.{positive}
 use Rattle.partner.specs.Rule as Rule
 use Rattle.partner.specs.Rule.{Follows, Seconds, Pairs, NoSecond, Sum}
-use Rattle.partner.specs.Second.{is_at, place_of, gap, follows, gain_of, paired, paired_with}
+use Rattle.partner.specs.Second.{place_of, gap, follows, gain_of, paired, paired_with}
 use Rattle.partner.specs.Sides.{may_fall, rise, fall}
 use Rattle.partner.proofs.Apart.{apart}
 
@@ -30,12 +27,20 @@ both : (a b : Bool) → T a → T b → T (a && b)
 both true b t u = u
 both false b t u = t
 
-pub at_place : (h : Found) → T (is_at h) → h ≡ At (place_of h)
-at_place (At i) t = refl
-at_place Nobody t = absurd t
+pub at_place : (h : Option ℕ) → T (is_some h) → h ≡ Some (place_of h)
+at_place (Some i) t = refl
+at_place None t = absurd t
 
-pub not_optimal : (i j : ℕ) → Optimal ≡ Pair i j → ⊥
-not_optimal i j q = let z : ◌≡◌ {A = ℕ} 0 1 = cc in omega arith
+-- equal pairs are equal by parts
+pub same_pair : (h k i j : ℕ) → ◌≡◌ {A = Option (ℕ × ℕ)} (Some (h, k)) (Some (i, j)) → (h ≡ i) × (k ≡ j)
+same_pair h k i j q =
+    let e = same_Some (h, k) (i, j) q in
+    (ap (λ (p : ℕ × ℕ). p.0) e, ap (λ (p : ℕ × ℕ). p.1) e)
+
+-- a pair is of the holder and the second that it was made of
+pub paired_is : (h : Option ℕ) (k i j : ℕ) → paired h k ≡ Some (i, j) → (h ≡ Some i) × (k ≡ j)
+paired_is (Some h) k i j q = let e = same_pair h k i j q in (ap Some e.0, e.1)
+paired_is None k i j q = absurd (none-some (i, j) q)
 
 -- the sum of an extreme that rises and one that falls is that of the words, and no other is
 module _ (p : Problem) (s : State) {Rises Falls : ℕ → Type 0} {u d : Extreme} (r : Words (inf true) (rise p s) Rises u) (f : Words (inf true) (fall p s) Falls d) where
@@ -63,12 +68,12 @@ module _ (stands : ℕ → Bool) (p : Problem) (s : State) (floor : Float) (a : 
   abbrev pub found : Extreme
   found = best at_most (inf false) asked held a
 
-  abbrev pub chosen_by : Bool → Choice
-  chosen_by stop = cond stop Optimal (paired_with (λ j. (lead (positive s j)).holder) found.holder)
+  abbrev pub chosen_by : Bool → Option (ℕ × ℕ)
+  chosen_by stop = cond stop None (paired_with (λ j. (lead (positive s j)).holder) found.holder)
 
   -- ---- who follows
 
-  value_at : (i j : ℕ) → (lead (positive s j)).holder ≡ At i → (lead (positive s j)).value ≡ rise p s i
+  value_at : (i j : ℕ) → (lead (positive s j)).holder ≡ Some i → (lead (positive s j)).value ≡ rise p s i
   value_at i j = (words (positive s j)).value_is i
 
   follower : (j : ℕ) → T (asked j) → F (place_of (lead (positive s j)).holder) j
@@ -76,15 +81,15 @@ module _ (stands : ℕ → Bool) (p : Problem) (s : State) (floor : Float) (a : 
       let e = lead (positive s j) in
       let behind = lt zero (gap p s e.value j) in
       let f = and_r (stands j) (follows p s lead j) t in
-      let q = at_place e.holder (and_l (is_at e.holder) (may_fall p s j && behind) f) in
-      let u = and_r (is_at e.holder) (may_fall p s j && behind) f in
+      let q = at_place e.holder (and_l (is_some e.holder) (may_fall p s j && behind) f) in
+      let u = and_r (is_some e.holder) (may_fall p s j && behind) f in
       record {
         led = ((words (positive s j)).named (place_of e.holder)).0 q;
         falls = both (stands j) (may_fall p s j) (and_l (stands j) (follows p s lead j) t) (and_l (may_fall p s j) behind u);
         ahead = rw (value_at (place_of e.holder) j q) at (and_r (may_fall p s j) behind u);
       }
 
-  led_at : (i j : ℕ) → F i j → (lead (positive s j)).holder ≡ At i
+  led_at : (i j : ℕ) → F i j → (lead (positive s j)).holder ≡ Some i
   led_at i j f = ((words (positive s j)).named i).1 f.led
 
   following : (i j : ℕ) → F i j → T (asked j)
@@ -93,7 +98,7 @@ module _ (stands : ℕ → Bool) (p : Problem) (s : State) (floor : Float) (a : 
       let q = led_at i j f in
       let behind = lt zero (gap p s e.value j) in
       both (stands j) (follows p s lead j) (and_l (stands j) (may_fall p s j) f.falls)
-      (both (is_at e.holder) (may_fall p s j && behind) (rw q tt)
+      (both (is_some e.holder) (may_fall p s j && behind) (rw q tt)
       (both (may_fall p s j) behind (and_r (stands j) (may_fall p s j) f.falls) (rw (value_at i j q) f.ahead)))
 
   same : (i j : ℕ) → F i j → held j ≡ gain_at i j
@@ -128,7 +133,7 @@ module _ (stands : ℕ → Bool) (p : Problem) (s : State) (floor : Float) (a : 
 
   -- the second that is found, with the holder of its label's lead, is the one of the words
   abbrev Taken : ℕ → ℕ → Type 0
-  Taken i j = (found.holder ≡ At j) × ((lead (positive s j)).holder ≡ At i)
+  Taken i j = (found.holder ≡ Some j) × ((lead (positive s j)).holder ≡ Some i)
 
   pub second_words : (i j : ℕ) → Taken i j ↔ Seconds stands p s floor a Rises i j
   second_words i j = (
@@ -139,7 +144,7 @@ module _ (stands : ℕ → Bool) (p : Problem) (s : State) (floor : Float) (a : 
     λ g. ((found_words.named j).1 (least_of i j g), led_at i j g.after),
   )
 
-  pub second_none : (found.holder ≡ Nobody) ↔ NoSecond stands p s floor a Rises
+  pub second_none : (found.holder ≡ None) ↔ NoSecond stands p s floor a Rises
   second_none = (
     λ q i j l f n. (last_least asked held a).nobody.0 q j l (following i j f) (rw (same i j f) n),
     λ z. (last_least asked held a).nobody.1 (λ j l t n. let f = follower j t in z (place_of (lead (positive s j)).holder) j l f (rw (same _ j f) at n)),
@@ -151,25 +156,21 @@ module _ (stands : ℕ → Bool) (p : Problem) (s : State) (floor : Float) (a : 
   pairs i j g = record { second = g; apart = apart p s i j g.after.ahead }
 
   -- a pair exactly where the rule doesn't stop and it is that of the words
-  pub choice_pair : (stop : Bool) (i j : ℕ) → (chosen_by stop ≡ Pair i j) ↔ ((stop ≡ false) × Pairs stands p s floor a Rises i j)
-  choice_pair true i j = (λ q. absurd (not_optimal i j q), λ w. absurd (true≢false w.0))
+  pub choice_pair : (stop : Bool) (i j : ℕ) → (chosen_by stop ≡ Some (i, j)) ↔ ((stop ≡ false) × Pairs stands p s floor a Rises i j)
+  choice_pair true i j = (λ q. absurd (none-some (i, j) q), λ w. absurd (true≢false w.0))
   choice_pair false i j = (λ q. (refl, pairs i j ((second_words i j).0 (go found.holder refl q))), λ w. let z = (second_words i j).1 w.1.second in rw (z.0, z.1))
     where
-      one : (h : Found) (k : ℕ) → found.holder ≡ At k → (lead (positive s k)).holder ≡ h → paired h k ≡ Pair i j → Taken i j
-      one (At h) k e l q = let x : h ≡ i = cc in let y : k ≡ j = cc in (rw y at e, rw (x, y) at l)
-      one Nobody k e l q = absurd (not_optimal i j q)
-
-      go : (h : Found) → found.holder ≡ h → paired_with (λ j. (lead (positive s j)).holder) h ≡ Pair i j → Taken i j
-      go (At k) e q = one (lead (positive s k)).holder k e refl q
-      go Nobody e q = absurd (not_optimal i j q)
+      go : (h : Option ℕ) → found.holder ≡ h → paired_with (λ j. (lead (positive s j)).holder) h ≡ Some (i, j) → Taken i j
+      go (Some k) e q = let w = paired_is (lead (positive s k)).holder k i j q in (rw w.1 at e, rw w.1 at w.0)
+      go None e q = absurd (none-some (i, j) q)
 
   -- optimal exactly where the rule stops, or there is no second
-  pub choice_optimal : (stop : Bool) → (chosen_by stop ≡ Optimal) ↔ ((stop ≡ true) ⊎ NoSecond stands p s floor a Rises)
+  pub choice_optimal : (stop : Bool) → (chosen_by stop ≡ None) ↔ ((stop ≡ true) ⊎ NoSecond stands p s floor a Rises)
   choice_optimal true = (λ q. inl refl, λ w. refl)
   choice_optimal false = (λ q. inr (second_none.0 (go found.holder refl q)), λ w. elim w [ inl e ↦ absurd (true≢false (sym e)) | inr z ↦ rw (second_none.1 z) ])
     where
-      go : (h : Found) → found.holder ≡ h → paired_with (λ j. (lead (positive s j)).holder) h ≡ Optimal → h ≡ Nobody
-      go (At k) e q =
+      go : (h : Option ℕ) → found.holder ≡ h → paired_with (λ j. (lead (positive s j)).holder) h ≡ None → h ≡ None
+      go (Some k) e q =
           let f = follower k ((found_words.named k).0 e).eligible in
-          absurd (not_optimal (place_of (lead (positive s k)).holder) k (sym (rw (led_at _ k f) at q)))
-      go Nobody e q = refl
+          absurd (none-some (place_of (lead (positive s k)).holder, k) (sym (rw (led_at _ k f) at q)))
+      go None e q = refl

@@ -1,13 +1,11 @@
 -- What the loop over the second asks of a lead, read once; and that loop as a race, proved to lead to `second` (proofs/Steps.antt).
-use Rattle.std.specs.Prelude.{ℕ, zero, suc, ◌+◌, ◌*◌, true, false, ◌&&◌, cond, eqb, Float, get_or}
+use Rattle.std.specs.Prelude.{ℕ, zero, suc, ◌+◌, ◌*◌, true, false, ◌&&◌, cond, eqb, Float, get_or, Option, Some, None}
 use Rattle.std.specs.Bool.{beq}
 use Rattle.std.specs.Float.{nan, inf}
 use Rattle.std.specs.Float.Ieee.{lt}
 use Rattle.alpha.specs.Weight.{zero as nought}
 use Rattle.extreme.specs.Best.{at_most}
 use Rattle.extreme.specs.Racing.{racing, below, raced}
-use Rattle.extreme.specs.declared.Found.{Found}
-use Rattle.extreme.specs.declared.Found.TheVariants.{At, Nobody}
 use Rattle.extreme.specs.declared.Race.{Race}
 use Rattle.kernel.specs.Row.{kernel_index, reach_of}
 use Rattle.state.specs.Lists.{Problem, State}
@@ -18,11 +16,11 @@ use Rattle.partner.specs.Sides.{may_fall}
 use Rattle.partner.specs.declared.Lead.{Lead}
 
 -- of n positions, the lead with value v and holder h; nobody follows a top of minus infinity
-abbrev pub lead_at : ℕ → State → Float → Found → Lead
-lead_at n s v (At i) =
+abbrev pub lead_at : ℕ → State → Float → Option ℕ → Lead
+lead_at n s v (Some i) =
     let c = kernel_index n s.numbers i in
     record { top = v; index = c; label = get_or s.labels i 0; diagonal = get_or s.floats (5 * n + c) nan }
-lead_at n s v Nobody = record { top = inf true; index = 0; label = 0; diagonal = nought }
+lead_at n s v None = record { top = inf true; index = 0; label = 0; diagonal = nought }
 
 -- the curvature of the lead l and position j
 abbrev pub curve_of : Problem → State → Float → Lead → ℕ → Float

@@ -1,27 +1,18 @@
 -- The second of the pair, and the choice, for both rules (the rule, sections 'Pair choice').
-use Rattle.std.specs.Prelude.{ℕ, Bool, true, false, ◌&&◌, cond, Float}
+use Rattle.std.specs.Prelude.{ℕ, Bool, false, ◌&&◌, cond, Float, Option, Some, None, is_some, unwrap_or}
 use Rattle.std.specs.Bool.{beq}
 use Rattle.std.specs.Float.{inf}
 use Rattle.std.specs.Float.Ieee.{lt}
 use Rattle.alpha.specs.Weight.{zero}
 use Rattle.extreme.specs.Best.{at_most, best}
 use Rattle.extreme.specs.declared.Extreme.{Extreme}
-use Rattle.extreme.specs.declared.Found.{Found}
-use Rattle.extreme.specs.declared.Found.TheVariants.{At, Nobody}
-use Rattle.extreme.specs.declared.Choice.{Choice}
-use Rattle.extreme.specs.declared.Choice.TheVariants.{Pair, Optimal}
 use Rattle.state.specs.Lists.{Problem, State}
 use Rattle.state.specs.Fields.{gradient, diagonal, row, positive}
 use Rattle.partner.specs.Curvature.{curvature, gap_of, gain}
 use Rattle.partner.specs.Sides.{may_fall}
 
-abbrev pub is_at : Found → Bool
-is_at (At i) = true
-is_at Nobody = false
-
-abbrev pub place_of : Found → ℕ
-place_of (At i) = i
-place_of Nobody = 0
+abbrev pub place_of : Option ℕ → ℕ
+place_of h = unwrap_or h 0
 
 abbrev pub agree : State → ℕ → ℕ → Bool
 agree s i j = beq (positive s i) (positive s j)
@@ -38,7 +29,7 @@ gap p s top j = gap_of (positive s j) top (gradient p s j)
 abbrev pub follows : Problem → State → (Bool → Extreme) → ℕ → Bool
 follows p s lead j =
     let e = lead (positive s j) in
-    is_at e.holder && (may_fall p s j && lt zero (gap p s e.value j))
+    is_some e.holder && (may_fall p s j && lt zero (gap p s e.value j))
 
 -- what the pair of i and j would gain, i the holder of a lead with value top
 abbrev pub gain_of : Problem → State → Float → Float → ℕ → ℕ → Float
@@ -51,14 +42,14 @@ second p s floor lead a =
 
 -- ---- the choice
 
-abbrev pub paired : Found → ℕ → Choice
-paired (At i) j = Pair i j
-paired Nobody j = Optimal
+abbrev pub paired : Option ℕ → ℕ → Option (ℕ × ℕ)
+paired (Some i) j = Some (i, j)
+paired None j = None
 
-abbrev pub paired_with : (ℕ → Found) → Found → Choice
-paired_with first (At j) = paired (first j) j
-paired_with first Nobody = Optimal
+abbrev pub paired_with : (ℕ → Option ℕ) → Option ℕ → Option (ℕ × ℕ)
+paired_with first (Some j) = paired (first j) j
+paired_with first None = None
 
--- optimal where the rule stops, or there is no second; else the second with the holder of its label's lead
-unfoldable pub choice : Problem → State → Float → (Bool → Extreme) → Bool → ℕ → Choice
-choice p s floor lead stop a = cond stop Optimal (paired_with (λ j. (lead (positive s j)).holder) (second p s floor lead a).holder)
+-- no pair where the rule stops, or there is no second; else the second with the holder of its label's lead
+unfoldable pub choice : Problem → State → Float → (Bool → Extreme) → Bool → ℕ → Option (ℕ × ℕ)
+choice p s floor lead stop a = cond stop None (paired_with (λ j. (lead (positive s j)).holder) (second p s floor lead a).holder)

@@ -7,14 +7,12 @@ use native.Mathlib.Omega.{arith}
 use borrow.Author.Tests.{lt-ltb, le-ltb}
 use lib.Ieee.{Float, nan, inf, binary64, sub, lt}
 use lib.ListN.{get_or}
+use Rattle.std.specs.Prelude.{Option, Some, None}
 use Rattle.alpha.specs.Weight as Weight
 use Rattle.choose_nu.specs.Choice.{of_label}
 use Rattle.extreme.specs.Best.{at_most, held, weighed, best}
 use Rattle.extreme.specs.Racing.{below, racing, found_in, race_of}
-use Rattle.extreme.specs.declared.Choice.TheVariants.{Optimal}
 use Rattle.extreme.specs.declared.Extreme.{Extreme}
-use Rattle.extreme.specs.declared.Found.{Found}
-use Rattle.extreme.specs.declared.Found.TheVariants.{At}
 use Rattle.extreme.specs.declared.Race.{Race}
 use Rattle.extreme.proofs.Racing.{race_found}
 use Rattle.extreme.proofs.Rule.{best_rule}
@@ -209,7 +207,7 @@ module _ (g : Given) (m y : List ℕ) (f : List Float) where
       go true = refl
       go false = refl
 
-  pub none_stops : not (stops g m y o) ≡ false → Optimal ≡ choice_in g m y o
+  pub none_stops : not (stops g m y o) ≡ false → None ≡ choice_in g m y o
   unfolding choice_in
   none_stops h = rw (not_false (stops g m y o) h)
 
@@ -217,14 +215,14 @@ module _ (g : Given) (m y : List ℕ) (f : List Float) where
   pub second_rises : (j : ℕ) → j ≡ (race_of g.n (partner g m y o)).at → j < g.n → lt Weight.zero (rising g m y o j) ≡ true
   unfolding partner
   second_rises j e J =
-      let q : (partner g m y o).holder ≡ At j = found_second ∙ rw (← e, lt-ltb j g.n J) in
+      let q : (partner g m y o).holder ≡ Some j = found_second ∙ rw (← e, lt-ltb j g.n J) in
       (holds _).0 ((best_rule at_most at_most_ranks (inf false) (λ j. lt Weight.zero (rising g m y o j)) (λ j. gain_by g m y o (place_of (lowest g m y o (positive_in y j)).holder) j) g.n).holds j q).eligible
 
-  pub nobody_follows : (j : ℕ) → j ≡ (race_of g.n (partner g m y o)).at → g.n ≤ j → Optimal ≡ choice_in g m y o
+  pub nobody_follows : (j : ℕ) → j ≡ (race_of g.n (partner g m y o)).at → g.n ≤ j → None ≡ choice_in g m y o
   unfolding choice_in
   nobody_follows j e J = rw (found_second, ← e, le-ltb j g.n J) (go (stops g m y o))
     where
-      go : (x : Bool) → Optimal ≡ cond x Optimal Optimal
+      go : (x : Bool) → ◌≡◌ {A = Option (ℕ × ℕ)} None (cond x None None)
       go true = refl
       go false = refl
 
@@ -239,4 +237,4 @@ module _ (g : Given) (m y : List ℕ) (f : List Float) where
 
     pub pair_is : j < g.n → paired (found_in g.n (cond (positive_in y j) p.at q.at)) j ≡ choice_in g m y o
     unfolding choice_in
-    pair_is J = rw (not_true (stops g m y o) h, second_at, lt-ltb j g.n J) (ap (λ (z : Found). paired z j) (sym (first_at (positive_in y j))))
+    pair_is J = rw (not_true (stops g m y o) h, second_at, lt-ltb j g.n J) (ap (λ (z : Option ℕ). paired z j) (sym (first_at (positive_in y j))))

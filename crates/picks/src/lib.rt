@@ -16,9 +16,10 @@ ghost use Rattle.kernel.specs.Matrix.{Matrix};
 ghost use Rattle.picks.specs.Follow.{deepest, first_of, by_label, raced_by, raced_from, bar_of, reaches_of, stirred_to};
 ghost use Rattle.sheet.specs.Ready.{SheetReady, Diagonal, Fitting};
 
-use extreme::{Choice, Race};
+use extreme::Race;
 use solver::Given;
 
+// No closure in its place: the contract speaks of nu.
 fn more(nu: bool, b: f64, v: f64) -> bool
     ensures { result ≡ cond nu above at_least b v }
 {
@@ -38,10 +39,11 @@ fn highest(f: &[f64], y: &[u8], n: usize, nu: bool, t: bool) -> f64
     ensures { result ≡ deepest nu n y.now f.now t }
 {
     let mut b = -1.0 / 0.0;
+    // By k: two lists are read at it.
     for k in 0..n {
         let v = f[3 * n + k];
         let pos = y[k] == 1;
-        b = extreme::value_of(seeks(nu, t, pos) & more(nu, b, v), v, b);
+        b = extreme::either(seeks(nu, t, pos) & more(nu, b, v), v, b);
     }
     b
 }
@@ -96,12 +98,6 @@ fn first_of(f: &[f64], n: usize, r: Race) -> First
     }
 }
 
-fn own(pos: bool, p: First, q: First) -> First
-    ensures { result ≡ cond pos p q }
-{
-    if pos { p } else { q }
-}
-
 // Sample j raced after the first l.
 fn raced(f: &[f64], m: &[u8], g: Given, l: First, j: usize, r: Race) -> Race
     requires { (Matrix g.side m.now) × (g.side ≡ g.n) × (5 * g.n ≤ length f.now) × (Diagonal g m.now f.now) × (j < g.n) × (l.at < g.n) }
@@ -137,8 +133,9 @@ fn raced_to(
     ensures { result ≡ raced_from g m.now f.now (by_label y.now p q) was t (e - t) }
 {
     let mut r = was;
+    // By j: it is the sample.
     for j in t..e {
-        r = raced(f, m, g, own(y[j] == 1, p, q), j, r);
+        r = raced(f, m, g, extreme::either(y[j] == 1, p, q), j, r);
     }
     r
 }
@@ -149,6 +146,7 @@ fn raced_eight(f: &[f64], m: &[u8], g: Given, l: First, t: usize, was: Race) -> 
     ensures { result ≡ raced_from g m.now f.now (λ j. l) was t 8 }
 {
     let mut r = was;
+    // By k: t + k is the sample.
     for k in 0..8 {
         r = raced(f, m, g, l, t + k, r);
     }
@@ -179,18 +177,13 @@ fn stirs(f: &[f64], m: &[u8], g: Given, l: First, t: usize, bar: f64) -> bool
 {
     let n = g.n;
     let mut any = false;
+    // No `any`: it would stop at the first, and eight couldn't be packed.
     for k in 0..8 {
         let j = t + k;
         let e = kernel::entry(m, g.side, l.at, j);
         any = any | reaches(f[3 * n + j], l.value, l.diagonal, f[2 * n + j], e, bar);
     }
     any
-}
-
-fn either(pos: bool, a: bool, b: bool) -> bool
-    ensures { result ≡ cond pos a b }
-{
-    if pos { a } else { b }
 }
 
 // .. each after the first of its label: both are asked, and the label says which counts.
@@ -209,6 +202,7 @@ fn stirs_by_label(
 {
     let n = g.n;
     let mut any = false;
+    // As above.
     for k in 0..8 {
         let j = t + k;
         let x = f[3 * n + j];
@@ -217,7 +211,7 @@ fn stirs_by_label(
         let c = kernel::entry(m, g.side, q.at, j);
         let u = reaches(x, p.value, p.diagonal, b, e, bar);
         let w = reaches(x, q.value, q.diagonal, b, c, bar);
-        any = any | either(y[j] == 1, u, w);
+        any = any | extreme::either(y[j] == 1, u, w);
     }
     any
 }
@@ -256,25 +250,24 @@ fn partner(f: &[f64], y: &[u8], m: &[u8], g: Given, p: First, q: First) -> usize
         at: n,
     };
     let mut bar = bar_of(r.value);
-    let mut t: usize = 0;
-    while t + 8 <= n {
+    for block in 0..n / 8 {
+        let t = 8 * block;
         if stirred(f, y, m, g, p, q, t, bar) {
             r = eight(f, y, m, g, p, q, t, r);
             bar = bar_of(r.value);
         }
-        t += 8;
     }
-    raced_to(f, y, m, g, p, q, t, n, r).at
+    raced_to(f, y, m, g, p, q, 8 * (n / 8), n, r).at
 }
 
 // The pair of i and j, where i is a sample.
-fn paired(n: usize, i: usize, j: usize) -> Choice
+fn paired(n: usize, i: usize, j: usize) -> Option<(usize, usize)>
     ensures { result ≡ paired_of (found_in n i) j }
 {
     if i < n {
-        return Choice::Pair(i, j);
+        return Some((i, j));
     }
-    Choice::Optimal
+    None
 }
 
 // The least of the other label, which without the nu rule is the same.
@@ -298,7 +291,7 @@ fn goes(f: &[f64], y: &[u8], m: &[u8], g: Given, p: f64, q: f64, j: usize) -> bo
     ensures { result ≡ not (Sheets.stops g m.now y.now (read_in g.nu g.n f.now)) }
 {
     let n = g.n;
-    let v = extreme::value_of(y[j] == 1, p, q);
+    let v = extreme::either(y[j] == 1, p, q);
     if f[3 * n + j] - v >= g.eps {
         return true;
     }
@@ -306,7 +299,7 @@ fn goes(f: &[f64], y: &[u8], m: &[u8], g: Given, p: f64, q: f64, j: usize) -> bo
 }
 
 // The pair to work on, or that there is none.
-pub fn choice(f: &[f64], y: &[u8], m: &[u8], g: Given) -> Choice
+pub fn choice(f: &[f64], y: &[u8], m: &[u8], g: Given) -> Option<(usize, usize)>
     requires { (SheetReady g m.now y.now f.now) × (Diagonal g m.now f.now) × (Fitting g f.now) × (1 ≤ g.n) }
     ensures { result ≡ Sheets.choice_in g m.now y.now (read_in g.nu g.n f.now) }
 {
@@ -316,8 +309,8 @@ pub fn choice(f: &[f64], y: &[u8], m: &[u8], g: Given) -> Choice
     let j = partner(f, y, m, g, first_of(f, n, p), first_of(f, n, q));
     if j < n {
         if goes(f, y, m, g, p.value, q.value, j) {
-            return paired(n, extreme::place_of(y[j] == 1, p.at, q.at), j);
+            return paired(n, extreme::either(y[j] == 1, p.at, q.at), j);
         }
     }
-    Choice::Optimal
+    None
 }

@@ -1,31 +1,11 @@
 // A record's call, made with lists of the recorded lengths that are marked before it.
-use crate::compared::differing;
-use answer::Outcome;
-use recorded::{agree, layout};
-
-fn places() -> [f64; 1024] {
-    let mut d = [0.0; 1024];
-    agree::mark_floats(&mut d);
-    d
-}
-
-fn scratch_floats() -> [f64; 4096] {
-    let mut d = [0.0; 4096];
-    agree::mark_floats(&mut d);
-    d
-}
-
-fn scratch_numbers() -> [u64; 2048] {
-    let mut d = [0; 2048];
-    agree::mark_numbers(&mut d);
-    d
-}
-
-fn scratch_bytes() -> [u8; 1024] {
-    let mut d = [0; 1024];
-    agree::mark_bytes(&mut d);
-    d
-}
+use crate::compared::{Differences, Lent};
+use answer::Answer;
+use classification::Terms;
+use judge::Refusal;
+use recorded::entry::Entry;
+use recorded::layout;
+use tuning::Settings;
 
 fn labels<'a>(b: &'a [u8]) -> &'a [u8] {
     layout::part(b, layout::labels_at(b), layout::count(b, 10, 1024))
@@ -36,89 +16,86 @@ fn retired<'a>(b: &'a [u8]) -> &'a [u8] {
     layout::part(b, at + 1, layout::count(b, at, 1024))
 }
 
+fn nu_rule(b: &[u8]) -> bool {
+    layout::word(b, 3) % 2 == 1
+}
+
 fn shrinking(b: &[u8]) -> bool {
     layout::word(b, 3) / 2 % 2 == 1
 }
 
-// Calls the entry that record b names.
-fn called(
-    b: &[u8],
-    m: &[u8],
-    c: &[f64],
-    a: &[f64],
-    p: &[f64],
-    cr: &mut [f64],
-    h: &mut [f64],
-    f: &mut [f64],
-    u: &mut [u64],
-    y: &mut [u8],
-) -> Outcome {
-    let entry = layout::word(b, 1);
-    let n = layout::word(b, 2) as usize;
-    let rule = layout::word(b, 3) % 2 == 1;
-    let budget = layout::word(b, 4);
-    let eps = layout::float(b, 5);
-    let nu = layout::float(b, 8);
-    let l = labels(b);
-    let s = shrinking(b);
-    if entry == 0 {
-        return general::general(n, m, l, c, a, p, rule, eps, s, budget, cr, h, f, u, y);
-    }
-    if entry == 1 {
-        let cpos = layout::float(b, 6);
-        let cneg = layout::float(b, 7);
-        return fit_c::fit_c(n, m, l, cpos, cneg, eps, s, budget, cr, h, f, u, y);
-    }
-    if entry == 2 {
-        return fit_nu::fit_nu(n, m, l, nu, eps, s, budget, cr, h, f, u, y);
-    }
-    if entry == 3 {
-        return fit_one_class::fit_one_class(n, m, nu, eps, s, budget, cr, h, f, u, y);
-    }
-    let r = retired(b);
-    fit_retired::fit_retired(n, m, l, c, a, p, r, rule, eps, s, budget, cr, h, f, u, y)
+// What a call may write to, at the recorded lengths.
+struct Room<'a> {
+    crate_reading: &'a mut [f64],
+    home: &'a mut [f64],
+    floats: &'a mut [f64],
+    numbers: &'a mut [u64],
+    bytes: &'a mut [u8],
 }
 
-fn tried_with(k: u64, b: &[u8], m: &[u8], c: &[f64], a: &[f64], p: &[f64]) -> u64 {
-    let mut cr = places();
-    let mut h = places();
-    let mut f = scratch_floats();
-    let mut u = scratch_numbers();
-    let mut y = scratch_bytes();
-    let nc = layout::count(b, 14, 1024);
-    let nh = layout::count(b, 15, 1024);
-    let nf = layout::count(b, 16, 4096);
-    let nu = layout::count(b, 17, 2048);
-    let ny = layout::count(b, 18, 1024);
+// Calls the entry that record b names.
+fn called(b: &[u8], m: &[u8], terms: Terms<'_>, room: Room<'_>) -> Result<Answer, Refusal> {
+    let Room {
+        crate_reading: cr,
+        home: h,
+        floats: f,
+        numbers: u,
+        bytes: y,
+    } = room;
+    let n = layout::word(b, 2) as usize;
+    let settings = Settings {
+        eps: layout::float(b, 5),
+        shrinking: shrinking(b),
+        budget: layout::word(b, 4),
+    };
+    let nu = layout::float(b, 8);
+    let l = labels(b);
+    let rule = nu_rule(b);
+    match layout::entry(b) {
+        Ok(Entry::General) => general::general(n, m, l, terms, rule, settings, cr, h, f, u, y),
+        Ok(Entry::C) => {
+            let cpos = layout::float(b, 6);
+            let cneg = layout::float(b, 7);
+            fit_c::fit_c(n, m, l, cpos, cneg, settings, cr, h, f, u, y)
+        }
+        Ok(Entry::Nu) => fit_nu::fit_nu(n, m, l, nu, settings, cr, h, f, u, y),
+        Ok(Entry::OneClass) => fit_one_class::fit_one_class(n, m, nu, settings, cr, h, f, u, y),
+        Ok(Entry::Retired) | Err(_) => {
+            let r = retired(b);
+            fit_retired::fit_retired(n, m, l, terms, r, rule, settings, cr, h, f, u, y)
+        }
+    }
+}
+
+fn tried_with(k: u64, b: &[u8], m: &[u8], terms: Terms<'_>) -> Differences {
+    let mut lent = Lent::marked();
     let o = called(
         b,
         m,
-        c,
-        a,
-        p,
-        &mut cr[..nc],
-        &mut h[..nh],
-        &mut f[..nf],
-        &mut u[..nu],
-        &mut y[..ny],
+        terms,
+        Room {
+            crate_reading: &mut lent.crate_reading[..layout::count(b, 14, 1024)],
+            home: &mut lent.home[..layout::count(b, 15, 1024)],
+            floats: &mut lent.floats[..layout::count(b, 16, 4096)],
+            numbers: &mut lent.numbers[..layout::count(b, 17, 2048)],
+            bytes: &mut lent.bytes[..layout::count(b, 18, 1024)],
+        },
     );
-    differing(k, b, o, &cr, &h, &f, &u, &y)
+    Differences::between(k, b, o, &lent)
 }
 
-// Calls as record b says, and answers how many things differ.
-pub fn tried(k: u64, b: &[u8], m: &[u8]) -> u64 {
+// Calls as record b says, the k-th, and answers what differs.
+pub fn tried(k: u64, b: &[u8], m: &[u8]) -> Differences {
     let lc = layout::count(b, 11, 1024);
     let la = layout::count(b, 12, 1024);
     let lp = layout::count(b, 13, 1024);
     let c = layout::floats(b, layout::ceilings_at(b), lc);
     let a = layout::floats(b, layout::alphas_at(b), la);
     let p = layout::floats(b, layout::linear_at(b), lp);
-    tried_with(
-        k,
-        b,
-        m,
-        layout::first(&c, lc),
-        layout::first(&a, la),
-        layout::first(&p, lp),
-    )
+    let terms = Terms {
+        ceilings: layout::first(&c, lc),
+        alphas: layout::first(&a, la),
+        linear: layout::first(&p, lp),
+    };
+    tried_with(k, b, m, terms)
 }

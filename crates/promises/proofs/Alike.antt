@@ -10,7 +10,6 @@ use Rattle.answer.specs.Answer.{coefficient_of}
 use Rattle.answer.specs.Lent.{Lent, Whole}
 use Rattle.answer.specs.Solved as Solved
 use Rattle.answer.specs.declared.Answer.{Answer}
-use Rattle.answer.specs.declared.Outcome.TheVariants.{Accepted}
 use Rattle.classification.specs.Entries.{general_tuned, fit_c_tuned, fit_nu_tuned, fit_one_class_tuned}
 use Rattle.fits.proofs.Loaded.{length_numbers, sample_loaded}
 use Rattle.readings.specs.Order.{crate_reading, home_reading, weight_in, Perm}
@@ -23,8 +22,9 @@ use Rattle.promises.proofs.Home.{finished_at, served_lists, served_at}
 use Rattle.classification.proofs.Still.{trained_still}
 use Rattle.tuning.specs.declared.Tuning.{Tuning}
 use Rattle.promises.proofs.Travel.{Served}
+use Rattle.std.specs.Prelude.{Ok}
 
-module _ {k : Fit} {m : List ℕ} {budget : ℕ} {d : Lent} {o : Whole} (v : Served k m budget d o) (x : Answer) (e : o.out ≡ Accepted x) (off : k.given.shrinking ≡ false) where
+module _ {k : Fit} {m : List ℕ} {budget : ℕ} {d : Lent} {o : Whole} (v : Served k m budget d o) (x : Answer) (e : o.out ≡ Ok x) (off : k.given.shrinking ≡ false) where
   abbrev g : Given
   g = k.given
 
@@ -71,19 +71,19 @@ module _ {k : Fit} {m : List ℕ} {budget : ℕ} {d : Lent} {o : Whole} (v : Ser
       ∙ sym (home_own s h))
       ∙ sym (served_at v x e s h)
 
-module _ (tune : Tuning) (n : ℕ) (m l : List ℕ) (c a p : List Float) (nurule : Bool) (eps : Float) (budget : ℕ) (d : Lent) (x : Answer) (e : (general_tuned tune n m l c a p nurule eps false budget d).out ≡ Accepted x) where
+module _ (tune : Tuning) (n : ℕ) (m l : List ℕ) (c a p : List Float) (nurule : Bool) (eps : Float) (budget : ℕ) (d : Lent) (x : Answer) (e : (general_tuned tune n m l c a p nurule eps false budget d).out ≡ Ok x) where
   pub general_alike : (s : ℕ) → s < n
       → get_or (general_tuned tune n m l c a p nurule eps false budget d).left.crate s nan ≡ get_or (general_tuned tune n m l c a p nurule eps false budget d).left.home s nan
   general_alike = served_alike (general_served tune n m l c a p nurule eps false budget d x e) x e refl
 
-module _ (tune : Tuning) (n : ℕ) (m l : List ℕ) (cpos cneg eps : Float) (budget : ℕ) (d : Lent) (x : Answer) (e : (fit_c_tuned tune n m l cpos cneg eps false budget d).out ≡ Accepted x) where
+module _ (tune : Tuning) (n : ℕ) (m l : List ℕ) (cpos cneg eps : Float) (budget : ℕ) (d : Lent) (x : Answer) (e : (fit_c_tuned tune n m l cpos cneg eps false budget d).out ≡ Ok x) where
   pub c_alike : (s : ℕ) → s < n → get_or (fit_c_tuned tune n m l cpos cneg eps false budget d).left.crate s nan ≡ get_or (fit_c_tuned tune n m l cpos cneg eps false budget d).left.home s nan
   c_alike = served_alike (c_served tune n m l cpos cneg eps false budget d x e) x e refl
 
-module _ (tune : Tuning) (n : ℕ) (m l : List ℕ) (nu eps : Float) (budget : ℕ) (d : Lent) (x : Answer) (e : (fit_nu_tuned tune n m l nu eps false budget d).out ≡ Accepted x) where
+module _ (tune : Tuning) (n : ℕ) (m l : List ℕ) (nu eps : Float) (budget : ℕ) (d : Lent) (x : Answer) (e : (fit_nu_tuned tune n m l nu eps false budget d).out ≡ Ok x) where
   pub nu_alike : (s : ℕ) → s < n → get_or (fit_nu_tuned tune n m l nu eps false budget d).left.crate s nan ≡ get_or (fit_nu_tuned tune n m l nu eps false budget d).left.home s nan
   nu_alike = served_alike (nu_served tune n m l nu eps false budget d x e) x e refl
 
-module _ (tune : Tuning) (n : ℕ) (m : List ℕ) (nu eps : Float) (budget : ℕ) (d : Lent) (x : Answer) (e : (fit_one_class_tuned tune n m nu eps false budget d).out ≡ Accepted x) where
+module _ (tune : Tuning) (n : ℕ) (m : List ℕ) (nu eps : Float) (budget : ℕ) (d : Lent) (x : Answer) (e : (fit_one_class_tuned tune n m nu eps false budget d).out ≡ Ok x) where
   pub one_class_alike : (s : ℕ) → s < n → get_or (fit_one_class_tuned tune n m nu eps false budget d).left.crate s nan ≡ get_or (fit_one_class_tuned tune n m nu eps false budget d).left.home s nan
   one_class_alike = served_alike (one_class_served tune n m nu eps false budget d x e) x e refl

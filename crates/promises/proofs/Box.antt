@@ -9,6 +9,7 @@ use lib.Ieee.{Float, nan, inf, fin, binary64, of_bits, fits, lt, le}
 use lib.Ieee.Scale.{finite}
 use lib.Ieee.Bits.{of_bits-fits}
 use lib.ListN.{get_or}
+use Rattle.std.specs.Prelude.{Some}
 use Rattle.alpha.specs.Weight as Weight
 use Rattle.alpha.specs.Weight.{one}
 use Rattle.answer.specs.Lent.{Lent, Whole}
@@ -17,10 +18,8 @@ use Rattle.boxed.specs.Range.{Ceiling, In, Entry, Divides}
 use Rattle.boxrun.specs.Boxed as Boxed
 use Rattle.boxrun.specs.Boxed.{OneCeiling}
 use Rattle.boxrun.proofs.Run.{box_weights, box_trained, no_nan_chosen, no_nan_runs}
-use Rattle.extreme.specs.declared.Choice.TheVariants.{Pair}
 use Rattle.fits.proofs.Loaded.{weight_loaded, ceiling_loaded, label_loaded}
 use Rattle.judge.specs.Judge.{first, is_ceiling, entry_good, label_good, floor_good}
-use Rattle.judge.specs.declared.Judged.TheVariants.{Fine}
 use Rattle.judge.proofs.Accepted.{entry_within, label_within, cost_within, floor_within}
 use Rattle.judge.proofs.First.{first_fine}
 use Rattle.rounding.specs.Units.{NotNan}
@@ -37,16 +36,18 @@ use Rattle.travel.proofs.Travel.{travelled_trained}
 use Rattle.wire.specs.Wire.{float_at, digits}
 use Rattle.promises.specs.Fit.{Fit, start_from, after, weight_after, pair_after, delta_after, steps_taken}
 use Rattle.promises.proofs.Travel.{Served, ready_start, fresh_start}
+use Rattle.std.specs.Prelude.{Ok}
+use Rattle.judge.specs.declared.Refusal.TheVariants.{Kernel, Label}
 
 -- ---- what the verdict says of entries, labels and ceilings
 
-pub entries_in : (n : ℕ) (m : List ℕ) → first 3 (entry_good m) (n * n) 0 ≡ Fine → (k : ℕ) → k < n * n → Entry (float_at m (8 * k))
+pub entries_in : (n : ℕ) (m : List ℕ) → first Kernel (entry_good m) (n * n) 0 ≡ Ok tt → (k : ℕ) → k < n * n → Entry (float_at m (8 * k))
 entries_in n m h k b =
-    let w = entry_within m k (first_fine 3 (entry_good m) (n * n) 0 h k (omega arith) (omega arith)) in
+    let w = entry_within m k (first_fine Kernel (entry_good m) (n * n) 0 h k (omega arith) (omega arith)) in
     record { fit = of_bits-fits binary64 (digits m (8 * k) 8); low = w.0; high = w.1 }
 
-pub labels_in : (n : ℕ) (l : List ℕ) → first 4 (label_good l) n 0 ≡ Fine → (k : ℕ) → k < n → get_or l k 0 ≤ 1
-labels_in n l h k b = label_within l k (first_fine 4 (label_good l) n 0 h k (omega arith) (omega arith))
+pub labels_in : (n : ℕ) (l : List ℕ) → first Label (label_good l) n 0 ≡ Ok tt → (k : ℕ) → k < n → get_or l k 0 ≤ 1
+labels_in n l h k b = label_within l k (first_fine Label (label_good l) n 0 h k (omega arith) (omega arith))
 
 -- refusal 14 leaves a floor that divides
 pub floor_in : (x : Float) → floor_good x ≡ true → Divides x
@@ -100,11 +101,11 @@ module _ {k : Fit} {m : List ℕ} {budget : ℕ} {d : Lent} {o : Whole} (v : Ser
   served_box = box_weights g m one_ceiling (start_from k m d) lent
 
   -- where the next pass steps with i and j
-  pub served_no_nan : (t i j : ℕ) → pair_after k m d t ≡ Pair i j → NotNan (delta_after k m d t i j)
+  pub served_no_nan : (t i j : ℕ) → pair_after k m d t ≡ Some (i, j) → NotNan (delta_after k m d t i j)
   served_no_nan = no_nan_runs g m one_ceiling (start_from k m d) lent
 
   -- the pair that is chosen after t passes
-  pub served_chosen : (t i j : ℕ) → chosen g m (after k m d t) ≡ Pair i j → NotNan (delta_at (problem_of g m) (after k m d t).state g.floor i j)
+  pub served_chosen : (t i j : ℕ) → chosen g m (after k m d t) ≡ Some (i, j) → NotNan (delta_at (problem_of g m) (after k m d t).state g.floor i j)
   served_chosen = no_nan_chosen g m one_ceiling (start_from k m d) lent
 
   -- and at home, before sign and scaling: the weight of each sample

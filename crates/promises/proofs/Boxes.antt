@@ -9,20 +9,19 @@ use lib.Dec.{T, eqb}
 use lib.Ieee.{Float, nan, binary64, of_bits, fits, is_nan}
 use lib.Ieee.Bits.{of_bits-fits}
 use lib.ListN.{get_or}
+use Rattle.std.specs.Prelude.{Some}
 use Rattle.alpha.specs.Weight as Weight
 use Rattle.alpha.specs.Weight.{one}
 use Rattle.answer.specs.Lent.{Lent}
 use Rattle.answer.specs.declared.Answer.{Answer}
-use Rattle.answer.specs.declared.Outcome.TheVariants.{Accepted}
 use Rattle.boxed.specs.Range.{Ceiling, In}
 use Rattle.classification.specs.Entries.{general_tuned, fit_c_tuned, fit_nu_tuned, fit_one_class_tuned}
-use Rattle.extreme.specs.declared.Choice.TheVariants.{Pair}
 use Rattle.fits.specs.Starts.{nothing, half, shared_to, one_class_to}
 use Rattle.fits.proofs.Starts.{nothing_at, evenly_at, positive_at, cost_at}
 use Rattle.judge.specs.Judge.{is_ceiling, ceiling_good, alpha_good, floor_good, general_judged}
-use Rattle.judge.specs.declared.Judged.TheVariants.{Fine}
 use Rattle.judge.proofs.Accepted.{general_fine, c_fine, nu_fine, one_class_fine, alpha_within, nu_within}
 use Rattle.judge.proofs.First.{first_fine}
+use Rattle.judge.specs.declared.Refusal.TheVariants as Refusal
 use Rattle.rounding.specs.Units.{NotNan}
 use Rattle.rounding.proofs.Order.{le_refl}
 use Rattle.travel.specs.Home.{last_left}
@@ -31,17 +30,18 @@ use Rattle.promises.specs.Fit.{general_fit, c_fit, nu_fit, one_class_fit, weight
 use Rattle.promises.proofs.Box.{Common, floor_in, entries_in, labels_in, ceiling_in_law, weight_in_law, served_box, served_no_nan, served_home_box}
 use Rattle.promises.proofs.Entries.{general_judged_law, general_floored, general_served, c_judged_law, c_floored, c_served, nu_judged_law, nu_floored, nu_served, one_class_judged_law, one_class_floored, one_class_served}
 use Rattle.promises.proofs.Starts.{ceiling_one, nu_start, one_class_start}
+use Rattle.std.specs.Prelude.{Ok}
 
 -- ---- general: every lent ceiling is b
 
 module _ (tune : Tuning) (n : ℕ) (m l : List ℕ) (c a p : List Float) (nurule : Bool) (eps : Float) (shrinking : Bool) (budget : ℕ) (some : 1 ≤ n)
-    (judged : general_judged n m l c a p eps budget ≡ Fine) (good : floor_good tune.floor ≡ true) (b : Float) (fit : T (fits binary64 b)) (same : (i : ℕ) → i < n → get_or c i nan ≡ b)
+    (judged : general_judged n m l c a p eps budget ≡ Ok tt) (good : floor_good tune.floor ≡ true) (b : Float) (fit : T (fits binary64 b)) (same : (i : ℕ) → i < n → get_or c i nan ≡ b)
     (fit_a : (i : ℕ) → i < n → T (fits binary64 (get_or a i nan))) where
   judged_b : is_ceiling b ≡ true
   unfolding ceiling_good
   judged_b =
       let f = general_fine n m l c a p eps budget judged in
-      rw (same 0 some) at (first_fine 5 (ceiling_good c) n 0 f.ceilings 0 (omega arith) (omega (arith, some)))
+      rw (same 0 some) at (first_fine Refusal.Ceiling (ceiling_good c) n 0 f.ceilings 0 (omega arith) (omega (arith, some)))
 
   pub general_common : Common (general_fit tune n l c a p nurule eps shrinking) m b
   general_common =
@@ -50,7 +50,7 @@ module _ (tune : Tuning) (n : ℕ) (m l : List ℕ) (c a p : List Float) (nurule
         ceiling = ceiling_in_law b fit judged_b;
         places = same;
         weights = λ i h.
-            let w = alpha_within a c i (first_fine 6 (alpha_good a c) n 0 f.alphas i (omega arith) (omega arith)) in
+            let w = alpha_within a c i (first_fine Refusal.Alpha (alpha_good a c) n 0 f.alphas i (omega arith) (omega arith)) in
             weight_in_law b (get_or a i nan) (fit_a i h) w.0 (rw (same i h) at w.1);
         entries = entries_in n m f.matrix;
         labels = labels_in n l f.labels;
@@ -58,7 +58,7 @@ module _ (tune : Tuning) (n : ℕ) (m l : List ℕ) (c a p : List Float) (nurule
       }
 
 module _ (tune : Tuning) (n : ℕ) (m l : List ℕ) (c a p : List Float) (nurule : Bool) (eps : Float) (shrinking : Bool) (budget : ℕ) (d : Lent) (x : Answer)
-    (e : (general_tuned tune n m l c a p nurule eps shrinking budget d).out ≡ Accepted x) (b : Float) (fit : T (fits binary64 b)) (same : (i : ℕ) → i < n → get_or c i nan ≡ b)
+    (e : (general_tuned tune n m l c a p nurule eps shrinking budget d).out ≡ Ok x) (b : Float) (fit : T (fits binary64 b)) (same : (i : ℕ) → i < n → get_or c i nan ≡ b)
     (fit_a : (i : ℕ) → i < n → T (fits binary64 (get_or a i nan))) where
   one_b : Common (general_fit tune n l c a p nurule eps shrinking) m b
   one_b =
@@ -68,7 +68,7 @@ module _ (tune : Tuning) (n : ℕ) (m l : List ℕ) (c a p : List Float) (nurule
   pub general_box : (t i : ℕ) → i < n → In b (weight_after (general_fit tune n l c a p nurule eps shrinking) m d t i)
   general_box = served_box (general_served tune n m l c a p nurule eps shrinking budget d x e) one_b
 
-  pub general_no_nan : (t i j : ℕ) → pair_after (general_fit tune n l c a p nurule eps shrinking) m d t ≡ Pair i j
+  pub general_no_nan : (t i j : ℕ) → pair_after (general_fit tune n l c a p nurule eps shrinking) m d t ≡ Some (i, j)
       → NotNan (delta_after (general_fit tune n l c a p nurule eps shrinking) m d t i j)
   general_no_nan = served_no_nan (general_served tune n m l c a p nurule eps shrinking budget d x e) one_b
 
@@ -86,7 +86,7 @@ pub nought_in : (b : Float) → Ceiling b → In b Weight.zero
 unfolding of_bits is_nan
 nought_in b h = weight_in_law b Weight.zero (of_bits-fits binary64 0) (le_refl Weight.zero tt) h.low
 
-module _ (tune : Tuning) (n : ℕ) (m l : List ℕ) (cost eps : Float) (shrinking : Bool) (budget : ℕ) (d : Lent) (x : Answer) (e : (fit_c_tuned tune n m l cost cost eps shrinking budget d).out ≡ Accepted x)
+module _ (tune : Tuning) (n : ℕ) (m l : List ℕ) (cost eps : Float) (shrinking : Bool) (budget : ℕ) (d : Lent) (x : Answer) (e : (fit_c_tuned tune n m l cost cost eps shrinking budget d).out ≡ Ok x)
     (fit : T (fits binary64 cost)) where
   c_common : Common (c_fit tune n l cost cost eps shrinking) m cost
   c_common =
@@ -105,7 +105,7 @@ module _ (tune : Tuning) (n : ℕ) (m l : List ℕ) (cost eps : Float) (shrinkin
   pub c_box : (t i : ℕ) → i < n → In cost (weight_after (c_fit tune n l cost cost eps shrinking) m d t i)
   c_box = served_box (c_served tune n m l cost cost eps shrinking budget d x e) c_common
 
-  pub c_no_nan : (t i j : ℕ) → pair_after (c_fit tune n l cost cost eps shrinking) m d t ≡ Pair i j → NotNan (delta_after (c_fit tune n l cost cost eps shrinking) m d t i j)
+  pub c_no_nan : (t i j : ℕ) → pair_after (c_fit tune n l cost cost eps shrinking) m d t ≡ Some (i, j) → NotNan (delta_after (c_fit tune n l cost cost eps shrinking) m d t i j)
   c_no_nan = served_no_nan (c_served tune n m l cost cost eps shrinking budget d x e) c_common
 
   -- the weight behind what home answers for sample s
@@ -114,7 +114,7 @@ module _ (tune : Tuning) (n : ℕ) (m l : List ℕ) (cost eps : Float) (shrinkin
 
 -- ---- nu and one-class: every ceiling is 1
 
-module _ (tune : Tuning) (n : ℕ) (m l : List ℕ) (nu eps : Float) (shrinking : Bool) (budget : ℕ) (d : Lent) (x : Answer) (e : (fit_nu_tuned tune n m l nu eps shrinking budget d).out ≡ Accepted x)
+module _ (tune : Tuning) (n : ℕ) (m l : List ℕ) (nu eps : Float) (shrinking : Bool) (budget : ℕ) (d : Lent) (x : Answer) (e : (fit_nu_tuned tune n m l nu eps shrinking budget d).out ≡ Ok x)
     (fit : T (fits binary64 nu)) where
   nu_common : Common (nu_fit tune n l nu eps shrinking) m one
   nu_common =
@@ -133,14 +133,14 @@ module _ (tune : Tuning) (n : ℕ) (m l : List ℕ) (nu eps : Float) (shrinking 
   pub nu_box : (t i : ℕ) → i < n → In one (weight_after (nu_fit tune n l nu eps shrinking) m d t i)
   nu_box = served_box (nu_served tune n m l nu eps shrinking budget d x e) nu_common
 
-  pub nu_no_nan : (t i j : ℕ) → pair_after (nu_fit tune n l nu eps shrinking) m d t ≡ Pair i j → NotNan (delta_after (nu_fit tune n l nu eps shrinking) m d t i j)
+  pub nu_no_nan : (t i j : ℕ) → pair_after (nu_fit tune n l nu eps shrinking) m d t ≡ Some (i, j) → NotNan (delta_after (nu_fit tune n l nu eps shrinking) m d t i j)
   nu_no_nan = served_no_nan (nu_served tune n m l nu eps shrinking budget d x e) nu_common
 
   -- the weight behind what home answers for sample s
   pub nu_home_box : (s : ℕ) → s < n → In one (last_left (steps_taken (nu_fit tune n l nu eps shrinking) m d budget) s (get_or (shared_to (half nu n) l nothing n) s nan))
   nu_home_box = served_home_box (nu_served tune n m l nu eps shrinking budget d x e) nu_common
 
-module _ (tune : Tuning) (n : ℕ) (m : List ℕ) (nu eps : Float) (shrinking : Bool) (budget : ℕ) (d : Lent) (x : Answer) (e : (fit_one_class_tuned tune n m nu eps shrinking budget d).out ≡ Accepted x)
+module _ (tune : Tuning) (n : ℕ) (m : List ℕ) (nu eps : Float) (shrinking : Bool) (budget : ℕ) (d : Lent) (x : Answer) (e : (fit_one_class_tuned tune n m nu eps shrinking budget d).out ≡ Ok x)
     (fit : T (fits binary64 nu)) where
   one_class_common : Common (one_class_fit tune n nu eps shrinking) m one
   one_class_common =
@@ -159,7 +159,7 @@ module _ (tune : Tuning) (n : ℕ) (m : List ℕ) (nu eps : Float) (shrinking : 
   pub one_class_box : (t i : ℕ) → i < n → In one (weight_after (one_class_fit tune n nu eps shrinking) m d t i)
   one_class_box = served_box (one_class_served tune n m nu eps shrinking budget d x e) one_class_common
 
-  pub one_class_no_nan : (t i j : ℕ) → pair_after (one_class_fit tune n nu eps shrinking) m d t ≡ Pair i j → NotNan (delta_after (one_class_fit tune n nu eps shrinking) m d t i j)
+  pub one_class_no_nan : (t i j : ℕ) → pair_after (one_class_fit tune n nu eps shrinking) m d t ≡ Some (i, j) → NotNan (delta_after (one_class_fit tune n nu eps shrinking) m d t i j)
   one_class_no_nan = served_no_nan (one_class_served tune n m nu eps shrinking budget d x e) one_class_common
 
   -- the weight behind what home answers for sample s

@@ -18,7 +18,6 @@ use Rattle.answer.specs.Lent.{Lent, Whole}
 use Rattle.answer.specs.declared.Answer.{Answer}
 use Rattle.answer.specs.declared.Finish.{Finish}
 use Rattle.answer.specs.declared.Finish.TheVariants.{Plain, Signed, Scaled}
-use Rattle.answer.specs.declared.Outcome.TheVariants.{Accepted}
 use Rattle.classification.specs.Entries.{fitted}
 use Rattle.finder.proofs.Doubles.{Double, Doubled, step_doubled}
 use Rattle.fits.proofs.Loaded.{weight_loaded, ceiling_loaded}
@@ -50,6 +49,7 @@ use Rattle.promises.specs.Retired.{retired_fit, silent_fit, own_over}
 use Rattle.promises.proofs.Home.{served_home, served_at}
 use Rattle.promises.proofs.Retired.{taken_left, taken_coded}
 use Rattle.promises.proofs.Travel.{Served, ready_start, fresh_start}
+use Rattle.std.specs.Prelude.{Ok}
 
 -- ---- a run
 
@@ -163,7 +163,7 @@ module _ {k : Fit} {m : List ℕ} {budget : ℕ} {d : Lent} {o : Whole} (v : Ser
   served_doubles = runs_doubled g m k.ceilings ceilings (start_from k m d) (ready_start v).floats start tops
 
   -- and what home answers for sample s
-  pub served_own_double : (x : Answer) → o.out ≡ Accepted x → (s : ℕ) → s < g.n → Double (own_weight k m d budget s)
+  pub served_own_double : (x : Answer) → o.out ≡ Ok x → (s : ℕ) → s < g.n → Double (own_weight k m d budget s)
   served_own_double x e s h =
       let w = trained g m k.ceilings budget (start_from k m d) in
       let q = (travelled_trained g m k.ceilings budget (start_from k m d) (ready_start v) (fresh_start v)).order in

@@ -14,7 +14,6 @@ use Rattle.answer.specs.Solved as Solved
 use Rattle.answer.specs.Solved.{stuck, level_at, settled_by, solved}
 use Rattle.answer.specs.declared.Answer.{Answer}
 use Rattle.answer.specs.declared.Finish.{Finish}
-use Rattle.answer.specs.declared.Outcome.TheVariants.{Accepted}
 use Rattle.classification.specs.Entries.{fitted}
 use Rattle.fits.proofs.Loaded.{weight_loaded}
 use Rattle.readings.specs.Order.{home_reading, weight_in}
@@ -26,6 +25,8 @@ use Rattle.travel.proofs.Home.{trained_home}
 use Rattle.promises.specs.Fit.{Fit, start_from, run_of, steps_taken, r_of, own_weight}
 use Rattle.classification.proofs.Accepts.{refused_apart}
 use Rattle.promises.proofs.Travel.{Served, ready_start, fresh_start}
+use Rattle.std.specs.Prelude.{Ok}
+use Rattle.judge.specs.declared.Refusal.TheVariants.{ShrunkAway}
 
 -- ---- a finished list
 
@@ -60,13 +61,13 @@ module _ (how : Finish) (l : List ℕ) (r : Float) (d : List Float) where
 
 -- ---- what a fit hands out
 
-settled_lists : (b : Bool) (g : Given) (how : Finish) (l : List ℕ) (budget : ℕ) (w : Full) (c h : List Float) (x : Answer) → (settled_by b g how l budget w c h).out ≡ Accepted x
+settled_lists : (b : Bool) (g : Given) (how : Finish) (l : List ℕ) (budget : ℕ) (w : Full) (c h : List Float) (x : Answer) → (settled_by b g how l budget w c h).out ≡ Ok x
     → ((settled_by b g how l budget w c h).crate ≡ Solved.crate_of g how l w (level_at g w) c) × ((settled_by b g how l budget w c h).home ≡ Solved.home_of g how l w (level_at g w) h)
 unfolding settled_by
-settled_lists true g how l budget w c h x e = absurd (refused_apart 11 0 x e)
+settled_lists true g how l budget w c h x e = absurd (refused_apart ShrunkAway x e)
 settled_lists false g how l budget w c h x e = (refl, refl)
 
-module _ {k : Fit} {m : List ℕ} {budget : ℕ} {d : Lent} {o : Whole} (v : Served k m budget d o) (x : Answer) (e : o.out ≡ Accepted x) where
+module _ {k : Fit} {m : List ℕ} {budget : ℕ} {d : Lent} {o : Whole} (v : Served k m budget d o) (x : Answer) (e : o.out ≡ Ok x) where
   abbrev g : Given
   g = k.given
 

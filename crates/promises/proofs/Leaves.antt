@@ -15,16 +15,14 @@ use Rattle.answer.specs.Lent.{Lent, Whole, untouched}
 use Rattle.answer.specs.Solved as Solved
 use Rattle.answer.specs.Solved.{Read, stuck, level_at, settled_by, closed_with, solved}
 use Rattle.answer.specs.declared.Finish.{Finish}
-use Rattle.answer.specs.declared.Outcome.TheVariants.{Refused}
-use Rattle.classification.specs.Entries.{given_by, scratch_of, fitted, decided, entered, sizes_of, general_tuned_sized, general_tuned, fit_c_tuned_sized, fit_c_tuned, fit_nu_tuned_sized, fit_nu_tuned, fit_one_class_tuned_sized, fit_one_class_tuned}
+use Rattle.classification.specs.Entries.{given_by, scratch_of, fitted, decided, sizes_of, general_tuned_sized, general_tuned, fit_c_tuned_sized, fit_c_tuned, fit_nu_tuned_sized, fit_nu_tuned, fit_one_class_tuned_sized, fit_one_class_tuned}
 use Rattle.classification.proofs.Accepts.{refused_apart}
 use Rattle.classification.proofs.Laws.{usable_general, usable_c, usable_nu, usable_one_class}
 use Rattle.fits.specs.Load.{loaded}
 use Rattle.fits.proofs.Loaded.{length_numbers, sample_loaded}
 use Rattle.judge.specs.Judge.{general_judged, floor_judged, retired_judged, c_judged, nu_judged, one_class_judged}
 use Rattle.judge.specs.Sizes.{Room, count_good, room_good, sizes}
-use Rattle.judge.specs.declared.Judged.{Judged}
-use Rattle.judge.specs.declared.Judged.TheVariants.{Fine, Bad}
+use Rattle.judge.specs.Refusals.{number}
 use Rattle.judge.proofs.Accepted.{floor_fine}
 use Rattle.judge.proofs.Lengths.{room_of}
 use Rattle.kernel.specs.declared.Kind.TheVariants.{TwoClass}
@@ -46,15 +44,18 @@ use Rattle.promises.specs.Leaves.{Beyond, has_run, Leaves}
 use Rattle.promises.proofs.Beyond.{beyond_refl, beyond_trans, Scratch, scratch_refl, scratch_trans, run_beyond, cleared_beyond}
 use Rattle.promises.proofs.Numbers.{general_sized_number, c_sized_number, nu_sized_number, one_class_sized_number, retired_sized_number}
 use Rattle.promises.proofs.Travel.{Served, ready_start, fresh_start}
+use Rattle.std.specs.Prelude.{⊤, Result, Ok, Err}
+use Rattle.judge.specs.declared.Refusal.{Refusal}
+use Rattle.judge.specs.declared.Refusal.TheVariants.{Samples, Length}
 
 -- ---- refused before a run
 
-away : (n number index : ℕ) (d : Lent) → (number ≡ 11 → ⊥) → Leaves n d (untouched (Refused number index) d)
+away : (n : ℕ) (refusal : Refusal) (d : Lent) → (number refusal ≡ 11 → ⊥) → Leaves n d (untouched (Err refusal) d)
 unfolding has_run
-away n number index d other = record {
+away n refusal d other = record {
   untouched = λ e. refl;
-  results = λ q i e. (refl, refl);
-  cleared = λ e. absurd (other (eqb-true number 11 e));
+  results = λ r e. (refl, refl);
+  cleared = λ e. absurd (other (eqb-true (number refusal) 11 e));
   crate = beyond_refl _ _ _;
   home = beyond_refl _ _ _;
   floats = beyond_refl _ _ _;
@@ -63,30 +64,30 @@ away n number index d other = record {
 }
 
 -- by its sizes, by what was judged, or by its run w
-entry_leaves : (n : ℕ) (inputs : Bool) (m : List ℕ) (j : Judged) (w : Whole) (d : Lent) → ((q i : ℕ) → j ≡ Bad q i → q ≡ 11 → ⊥)
-    → (Room n (length m) (length d.crate) (length d.home) (length d.floats) (length d.numbers) (length d.bytes) → j ≡ Fine → Leaves n d w)
-    → Leaves n d (entered (sizes_of n inputs m d) (decided j w d) d)
-unfolding entered sizes decided
+entry_leaves : (n : ℕ) (inputs : Bool) (m : List ℕ) (j : Result ⊤ Refusal) (w : Whole) (d : Lent) → ((r : Refusal) → j ≡ Err r → number r ≡ 11 → ⊥)
+    → (Room n (length m) (length d.crate) (length d.home) (length d.floats) (length d.numbers) (length d.bytes) → j ≡ Ok tt → Leaves n d w)
+    → Leaves n d (decided (sizes_of n inputs m d) (decided j w d) d)
+unfolding sizes decided
 entry_leaves n inputs m j w d other run =
     sized (count_good n) (inputs && room_good n (length m) (length d.crate) (length d.home) (length d.floats) (length d.numbers) (length d.bytes))
     (λ e. room_of n inputs (length m) (length d.crate) (length d.home) (length d.floats) (length d.numbers) (length d.bytes) e)
   where
-    judged : (k : Judged) → j ≡ k → (j ≡ Fine → Leaves n d w) → Leaves n d (decided k w d)
-    judged Fine e go = go e
-    judged (Bad q i) e go = away n q i d (other q i e)
+    judged : (k : Result ⊤ Refusal) → j ≡ k → (j ≡ Ok tt → Leaves n d w) → Leaves n d (decided k w d)
+    judged (Ok x) e go = go e
+    judged (Err r) e go = away n r d (other r e)
 
-    sized : (a b : Bool) → (◌≡◌ {A = ℕ} (cond a (cond b 0 2) 1) 0 → Room n (length m) (length d.crate) (length d.home) (length d.floats) (length d.numbers) (length d.bytes))
-        → Leaves n d (cond (eqb (cond a (cond b 0 2) 1) 0) (decided j w d) (untouched (Refused (cond a (cond b 0 2) 1) 0) d))
+    sized : (a b : Bool) → (◌≡◌ {A = Result ⊤ Refusal} (cond a (cond b (Ok tt) (Err Length)) (Err Samples)) (Ok tt) → Room n (length m) (length d.crate) (length d.home) (length d.floats) (length d.numbers) (length d.bytes))
+        → Leaves n d (decided (cond a (cond b (Ok tt) (Err Length)) (Err Samples)) (decided j w d) d)
     sized true true r = judged j refl (run (r refl))
-    sized true false r = away n 2 0 d (λ z. omega arith)
-    sized false b r = away n 1 0 d (λ z. omega arith)
+    sized true false r = away n Length d (λ z. omega arith)
+    sized false b r = away n Samples d (λ z. omega arith)
 
 -- ---- after a run
 
 -- s is the scratch that the run left, still to be cleared
 module _ (n : ℕ) (d : Lent) (s : State) (rest : Scratch n (scratch_of d) s)
     (f : 7 * n ≤ length d.floats) (u : 2 * n ≤ length d.numbers) (y : n ≤ length d.bytes) where
-  after_run : (r : Read) → has_run r.out ≡ true → ((q i : ℕ) → r.out ≡ Refused q i → (r.crate ≡ d.crate) × (r.home ≡ d.home))
+  after_run : (r : Read) → has_run r.out ≡ true → ((q : Refusal) → r.out ≡ Err q → (r.crate ≡ d.crate) × (r.home ≡ d.home))
       → Beyond nan n d.crate r.crate → Beyond nan n d.home r.home → Leaves n d (closed_with n s r)
   after_run r there same c h =
       let z = scratch_trans rest (cleared_beyond n s) in
@@ -140,9 +141,9 @@ module _ {k : Fit} {m : List ℕ} {budget : ℕ} {d : Lent} {o : Whole} (v : Ser
 
       go : (b : Bool) → Scratch g.n (scratch_of d) w.state → Leaves g.n d (closed_with g.n w.state (settled_by b g k.how k.labels budget w d.crate d.home))
       go true rest =
-          after_run g.n d w.state rest v.room.floats v.room.numbers v.room.bytes _ refl (λ q i e. (refl, refl)) (beyond_refl nan g.n d.crate) (beyond_refl nan g.n d.home)
+          after_run g.n d w.state rest v.room.floats v.room.numbers v.room.bytes _ refl (λ q e. (refl, refl)) (beyond_refl nan g.n d.crate) (beyond_refl nan g.n d.home)
       go false rest =
-          after_run g.n d w.state rest v.room.floats v.room.numbers v.room.bytes _ refl (λ q i e. absurd (refused_apart q i _ (sym e)))
+          after_run g.n d w.state rest v.room.floats v.room.numbers v.room.bytes _ refl (λ q e. absurd (refused_apart q _ (sym e)))
           (beyond_trans nan g.n (crate_beyond g.n w.state.numbers (weight_in g.n w.state.floats) d.crate) (finished_beyond k.how k.labels r _ g.n))
           (beyond_trans nan g.n (home_beyond g.n w.state.numbers (weight_in g.n w.state.floats) d.home within) (finished_beyond k.how k.labels r _ g.n))
 
@@ -165,7 +166,7 @@ module _ (tune : Tuning) (n : ℕ) (m l : List ℕ) (c a p : List Float) (nurule
   unfolding general_tuned general_tuned_sized decided
   general_leaves =
       entry_leaves n (eqb (length l) n && eqb (length c) n && eqb (length a) n && eqb (length p) n) m (floor_judged tune.floor (general_judged n m l c a p eps budget)) _ d
-      (λ q i e. not_eleven tune.floor q (general_sized_number tune n m l c a p nurule eps false budget d q i (rw e)))
+      (λ q e. not_eleven tune.floor (number q) (general_sized_number tune n m l c a p nurule eps false budget d q (rw e)))
       (λ r f. served_leaves {k = general_fit tune n l c a p nurule eps shrinking} (record { square = refl; room = r; usable = usable_general n m budget r.most r.matrix l c a p eps (floor_fine tune.floor _ f).0; same = refl }))
 
 module _ (tune : Tuning) (n : ℕ) (m l : List ℕ) (cpos cneg eps : Float) (shrinking : Bool) (budget : ℕ) (d : Lent) where
@@ -173,7 +174,7 @@ module _ (tune : Tuning) (n : ℕ) (m l : List ℕ) (cpos cneg eps : Float) (shr
   unfolding fit_c_tuned fit_c_tuned_sized decided
   c_leaves =
       entry_leaves n (eqb (length l) n) m (floor_judged tune.floor (c_judged n m l cpos cneg eps budget)) _ d
-      (λ q i e. not_eleven tune.floor q (c_sized_number tune n m l cpos cneg eps false budget d q i (rw e)))
+      (λ q e. not_eleven tune.floor (number q) (c_sized_number tune n m l cpos cneg eps false budget d q (rw e)))
       (λ r f. served_leaves {k = c_fit tune n l cpos cneg eps shrinking} (record { square = refl; room = r; usable = usable_c n m budget r.most r.matrix l cpos cneg eps (floor_fine tune.floor _ f).0; same = refl }))
 
 module _ (tune : Tuning) (n : ℕ) (m l : List ℕ) (nu eps : Float) (shrinking : Bool) (budget : ℕ) (d : Lent) where
@@ -181,7 +182,7 @@ module _ (tune : Tuning) (n : ℕ) (m l : List ℕ) (nu eps : Float) (shrinking 
   unfolding fit_nu_tuned fit_nu_tuned_sized decided
   nu_leaves =
       entry_leaves n (eqb (length l) n) m (floor_judged tune.floor (nu_judged n m l nu eps budget)) _ d
-      (λ q i e. not_eleven tune.floor q (nu_sized_number tune n m l nu eps false budget d q i (rw e)))
+      (λ q e. not_eleven tune.floor (number q) (nu_sized_number tune n m l nu eps false budget d q (rw e)))
       (λ r f. served_leaves {k = nu_fit tune n l nu eps shrinking} (record { square = refl; room = r; usable = usable_nu n m budget r.most r.matrix l nu eps (floor_fine tune.floor _ f).0; same = refl }))
 
 module _ (tune : Tuning) (n : ℕ) (m : List ℕ) (nu eps : Float) (shrinking : Bool) (budget : ℕ) (d : Lent) where
@@ -189,7 +190,7 @@ module _ (tune : Tuning) (n : ℕ) (m : List ℕ) (nu eps : Float) (shrinking : 
   unfolding fit_one_class_tuned fit_one_class_tuned_sized decided
   one_class_leaves =
       entry_leaves n true m (floor_judged tune.floor (one_class_judged n m nu eps budget)) _ d
-      (λ q i e. not_eleven tune.floor q (one_class_sized_number tune n m nu eps false budget d q i (rw e)))
+      (λ q e. not_eleven tune.floor (number q) (one_class_sized_number tune n m nu eps false budget d q (rw e)))
       (λ r f. served_leaves {k = one_class_fit tune n nu eps shrinking} (record { square = refl; room = r; usable = usable_one_class n m budget r.most r.matrix nu eps (floor_fine tune.floor _ f).0; same = refl }))
 
 -- ---- the entry with retired samples, which never refuses with 11
@@ -207,7 +208,7 @@ over_leaves stands g m l c a p budget d f u y =
     let inside : NamesSamples g.n w.state.numbers =
     record { long = rw (order, long) (omega arith); below = λ k h. rw (order, sample_loaded g.n d.numbers u g.n k (omega arith) h) h }
     in
-    after_run g.n d (scratch_of d) (scratch_refl g.n (scratch_of d)) f u y _ refl (λ q i e. absurd (refused_apart q i _ (sym e)))
+    after_run g.n d (scratch_of d) (scratch_refl g.n (scratch_of d)) f u y _ refl (λ q e. absurd (refused_apart q _ (sym e)))
     (crate_beyond g.n w.state.numbers weights d.crate) (home_beyond g.n w.state.numbers weights d.home inside)
 
 module _ (tune : Tuning) (n : ℕ) (m l : List ℕ) (c a p : List Float) (r : List ℕ) (nurule : Bool) (eps : Float) (shrinking : Bool) (budget : ℕ) (d : Lent) where
@@ -215,5 +216,5 @@ module _ (tune : Tuning) (n : ℕ) (m l : List ℕ) (c a p : List Float) (r : Li
   unfolding retired_tuned retired_tuned_sized decided
   retired_leaves =
       entry_leaves n (eqb (length l) n && eqb (length c) n && eqb (length a) n && eqb (length p) n && eqb (length r) n) m (retired_judged tune.floor n m l c a p r eps shrinking budget) _ d
-      (λ q i e. not_eleven_retired tune.floor q (retired_sized_number tune n m l c a p r nurule eps shrinking budget d q i (rw e)))
+      (λ q e. not_eleven_retired tune.floor (number q) (retired_sized_number tune n m l c a p r nurule eps shrinking budget d q (rw e)))
       (λ v f. over_leaves (stands_in r) (given_by tune n TwoClass eps false nurule) m l c (kept r a n) (kept r p n) budget d v.floats v.numbers v.bytes)

@@ -20,7 +20,6 @@ use Rattle.fits.specs.Starts.{nothing, evenly, all_positive, cost_of, costs_to, 
 use Rattle.fits.proofs.Loaded.{ceiling_loaded, length_floats}
 use Rattle.fits.proofs.Starts.{evenly_at, cost_at}
 use Rattle.judge.specs.Judge.{general_judged, c_judged, nu_judged, one_class_judged, floor_judged}
-use Rattle.judge.specs.declared.Judged.{Judged}
 use Rattle.kernel.specs.declared.Kind.TheVariants.{TwoClass, OneClass}
 use Rattle.modes.specs.Modes.{repaired}
 use Rattle.modes.specs.declared.Mode.TheVariants.{Crate, Travelling}
@@ -31,6 +30,8 @@ use Rattle.trace.specs.Modes.{in_mode}
 use Rattle.trace.proofs.Modes.{Placed, trained_common, trained_off}
 use Rattle.tuning.specs.Tuning.{tuned}
 use Rattle.promises.proofs.Boxes.{same_cost}
+use Rattle.std.specs.Prelude.{⊤, Result}
+use Rattle.judge.specs.declared.Refusal.{Refusal}
 
 -- ---- a fit
 
@@ -63,7 +64,7 @@ module _ (g : Given) (how : Finish) (m l : List ℕ) (c a p : List Float) (budge
 
 -- ---- an entry: the refusals are the same, so what is left is the fit; ModesWhole.antt has the entries with the sizes that are judged first
 
-decided_by : (j : Judged) (w v : Whole) (d : Lent) → w ≡ v → decided j w d ≡ decided j v d
+decided_by : (j : Result ⊤ Refusal) (w v : Whole) (d : Lent) → w ≡ v → decided j w d ≡ decided j v d
 decided_by j w v d h = ap (λ (z : Whole). decided j z d) h
 
 -- ---- the entries, under a floor x; what follows the sizes by itself

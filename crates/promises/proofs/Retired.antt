@@ -6,13 +6,11 @@ use mathlib.Core.Path.{◌≡◌, refl, sym, ap, ◌∙◌}
 use native.Mathlib.Omega.{arith}
 use lib.Ieee.{Float, nan}
 use lib.ListN.{length, get_or}
+use Rattle.std.specs.Prelude.{Some}
 use Rattle.alpha.specs.Weight as Weight
 use Rattle.answer.specs.Lent.{Lent, Whole}
 use Rattle.answer.specs.declared.Answer.{Answer}
-use Rattle.answer.specs.declared.Outcome.{Outcome}
-use Rattle.answer.specs.declared.Outcome.TheVariants.{Accepted, Refused}
 use Rattle.classification.specs.Entries.{scratch_of}
-use Rattle.extreme.specs.declared.Choice.TheVariants.{Pair}
 use Rattle.fits.proofs.Loaded.{ready_loaded, sample_loaded, index_loaded, label_loaded, linear_loaded, weight_loaded}
 use Rattle.kernel.specs.declared.Kind.TheVariants.{TwoClass}
 use Rattle.readings.specs.Order.{weight_in, Perm}
@@ -37,10 +35,12 @@ use Rattle.travel.specs.Travel.{Fresh, Travelled}
 use Rattle.tuning.specs.declared.Tuning.{Tuning}
 use Rattle.promises.specs.Fit.{Fit, start_from, after, weight_after}
 use Rattle.promises.specs.Retired.{retired_fit, silent_fit, after_over, weight_over, pair_over, steps_over, own_over}
+use Rattle.std.specs.Prelude.{Result, Ok, Err}
+use Rattle.judge.specs.declared.Refusal.{Refusal}
 
-abbrev pub iterations_of : Outcome → ℕ
-iterations_of (Accepted z) = z.iterations
-iterations_of (Refused number index) = 0
+abbrev pub iterations_of : Result Answer Refusal → ℕ
+iterations_of (Ok z) = z.iterations
+iterations_of (Err refusal) = 0
 
 module _ {tune : Tuning} {n : ℕ} {r : List ℕ} {nurule : Bool} {eps : Float} {shrinking : Bool} {budget : ℕ} {d : Lent} {x : Input} {o : Whole}
     (v : Taken tune n r nurule eps shrinking budget d x o) where
@@ -141,10 +141,10 @@ module _ {tune : Tuning} {n : ℕ} {r : List ℕ} {nurule : Bool} {eps : Float} 
 
   -- ---- the steps: both of a pair stand; the iterations answered are the steps, at most the budget
 
-  pub taken_pairs : (t i j : ℕ) → pair_over (stands_in r) k m d t ≡ Pair i j → ((i < n) × (stands_in r i ≡ true)) × ((j < n) × (stands_in r j ≡ true))
+  pub taken_pairs : (t i j : ℕ) → pair_over (stands_in r) k m d t ≡ Some (i, j) → ((i < n) × (stands_in r i ≡ true)) × ((j < n) × (stands_in r j ≡ true))
   taken_pairs t = pair_stands (stands_in r) k.given m x.ceilings (after_over (stands_in r) k m d t)
 
-  pub taken_iterations : (z : Answer) → o.out ≡ Accepted z → (z.iterations ≡ length (steps_over (stands_in r) k m d budget)) × (z.iterations ≤ budget)
+  pub taken_iterations : (z : Answer) → o.out ≡ Ok z → (z.iterations ≡ length (steps_over (stands_in r) k m d budget)) × (z.iterations ≤ budget)
   unfolding fitted_over answered_over trained_over
   taken_iterations z e =
       let q = runs_count (stands_in r) k.given m x.ceilings (start_of k.given m x.ceilings start) budget in

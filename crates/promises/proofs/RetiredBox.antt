@@ -8,18 +8,19 @@ use native.Mathlib.Omega.{arith}
 use lib.Dec.{T, eqb}
 use lib.Ieee.{Float, nan, binary64, fits}
 use lib.ListN.{get_or}
+use Rattle.std.specs.Prelude.{Some}
 use Rattle.alpha.specs.Weight as Weight
 use Rattle.answer.specs.Lent.{Lent, Whole}
 use Rattle.answer.specs.declared.Finish.TheVariants.{Plain}
 use Rattle.boxed.specs.Delta.{delta_at}
 use Rattle.boxed.specs.Range.{In}
 use Rattle.classification.specs.Entries.{given_by, scratch_of, fitted}
-use Rattle.extreme.specs.declared.Choice.TheVariants.{Pair}
 use Rattle.fits.specs.Starts.{nothing}
 use Rattle.fits.proofs.Loaded.{ready_loaded}
 use Rattle.judge.specs.Judge.{is_ceiling, ceiling_good, alpha_good}
 use Rattle.judge.proofs.Accepted.{GeneralFine, general_fine, alpha_within}
 use Rattle.judge.proofs.First.{first_fine}
+use Rattle.judge.specs.declared.Refusal.TheVariants as Refusal
 use Rattle.kernel.specs.Curvature.{curved}
 use Rattle.kernel.specs.declared.Kind.TheVariants.{TwoClass}
 use Rattle.retired.specs.Silenced.{silenced}
@@ -133,14 +134,14 @@ module _ {tune : Tuning} {n : ℕ} {r : List ℕ} {nurule : Bool} {eps : Float} 
   module _ (some : ℕ) (below : some < n) (up : st some ≡ true) where
     good_b : is_ceiling b ≡ true
     unfolding ceiling_good
-    good_b = rw (same some below up) at (first_fine 5 (ceiling_good c) n 0 fine.ceilings some (omega arith) (omega arith))
+    good_b = rw (same some below up) at (first_fine Refusal.Ceiling (ceiling_good c) n 0 fine.ceilings some (omega arith) (omega arith))
 
     start_in : (i : ℕ) → i < n → In b (get_or (kept r a n) i nan)
     start_in i h = rw (kept_place r n most a i h) (go (st i) refl)
       where
         go : (q : Bool) → st i ≡ q → In b (cond q (get_or a i nan) Weight.zero)
         go true z =
-            let y = alpha_within a c i (first_fine 6 (alpha_good a c) n 0 fine.alphas i (omega arith) (omega arith)) in
+            let y = alpha_within a c i (first_fine Refusal.Alpha (alpha_good a c) n 0 fine.alphas i (omega arith) (omega arith)) in
             weight_in_law b (get_or a i nan) (fit_a i h z) y.0 (rw (same i h z) at y.1)
         go false z = nought_in b (ceiling_in_law b fit good_b)
 
@@ -168,7 +169,7 @@ module _ {tune : Tuning} {n : ℕ} {r : List ℕ} {nurule : Bool} {eps : Float} 
       rw ((twins t).alike.weights i h, sym (by_rule t).kin.state) (served_box quiet_served (one_b i h z) t i h)
 
   -- where i and j are chosen after t passes
-  pub taken_no_nan : (t i j : ℕ) → pair_over st k m d t ≡ Pair i j → NotNan (delta_over st k m d t i j)
+  pub taken_no_nan : (t i j : ℕ) → pair_over st k m d t ≡ Some (i, j) → NotNan (delta_over st k m d t i j)
   unfolding trained_over
   taken_no_nan t i j q =
       let y = twins t in

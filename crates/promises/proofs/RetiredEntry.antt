@@ -6,12 +6,11 @@ use mathlib.Core.Path.{◌≡◌}
 use lib.Dec.{T}
 use lib.Ieee.{Float, nan, binary64, fits}
 use lib.ListN.{length, get_or}
+use Rattle.std.specs.Prelude.{Some}
 use Rattle.alpha.specs.Weight as Weight
 use Rattle.answer.specs.Lent.{Lent, Whole}
 use Rattle.answer.specs.declared.Answer.{Answer}
-use Rattle.answer.specs.declared.Outcome.TheVariants.{Accepted}
 use Rattle.boxed.specs.Range.{In}
-use Rattle.extreme.specs.declared.Choice.TheVariants.{Pair}
 use Rattle.retired.specs.Differ.{Input, retired_for}
 use Rattle.retired.specs.Entry.{stands_in, kept}
 use Rattle.retired.proofs.Independent.{Taken, retired_taken}
@@ -22,9 +21,10 @@ use Rattle.promises.specs.Fit.{Fit, weight_after}
 use Rattle.promises.specs.Retired.{retired_fit, silent_fit, after_over, weight_over, pair_over, delta_over, steps_over, own_over}
 use Rattle.promises.proofs.Retired.{taken_alike, taken_home, taken_reads, taken_travels, taken_pairs, taken_iterations, taken_coded}
 use Rattle.promises.proofs.RetiredBox.{taken_box, taken_no_nan, taken_home_box}
+use Rattle.std.specs.Prelude.{Ok}
 
 module _ (tune : Tuning) (x : Input) (n : ℕ) (r : List ℕ) (nurule : Bool) (eps : Float) (shrinking : Bool) (budget : ℕ) (d : Lent) (z : Answer)
-    (e : (retired_for tune x n r nurule eps shrinking budget d).out ≡ Accepted z) where
+    (e : (retired_for tune x n r nurule eps shrinking budget d).out ≡ Ok z) where
   abbrev o : Whole
   o = retired_for tune x n r nurule eps shrinking budget d
 
@@ -51,7 +51,7 @@ module _ (tune : Tuning) (x : Input) (n : ℕ) (r : List ℕ) (nurule : Bool) (e
   retired_travels = taken_travels v
 
   -- both samples of a pair stand
-  pub retired_pairs : (t i j : ℕ) → pair_over (stands_in r) k x.matrix d t ≡ Pair i j → ((i < n) × (stands_in r i ≡ true)) × ((j < n) × (stands_in r j ≡ true))
+  pub retired_pairs : (t i j : ℕ) → pair_over (stands_in r) k x.matrix d t ≡ Some (i, j) → ((i < n) × (stands_in r i ≡ true)) × ((j < n) × (stands_in r j ≡ true))
   retired_pairs = taken_pairs v
 
   -- the iterations answered are the steps, at most the budget
@@ -68,7 +68,7 @@ module _ (tune : Tuning) (x : Input) (n : ℕ) (r : List ℕ) (nurule : Bool) (e
     pub retired_box : (t i : ℕ) → i < n → stands_in r i ≡ true → In b (weight_over (stands_in r) k x.matrix d t i)
     retired_box = taken_box v b fit same fit_a
 
-    pub retired_no_nan : (t i j : ℕ) → pair_over (stands_in r) k x.matrix d t ≡ Pair i j → NotNan (delta_over (stands_in r) k x.matrix d t i j)
+    pub retired_no_nan : (t i j : ℕ) → pair_over (stands_in r) k x.matrix d t ≡ Some (i, j) → NotNan (delta_over (stands_in r) k x.matrix d t i j)
     retired_no_nan = taken_no_nan v b fit same fit_a
 
     -- the weight behind what home answers for sample s

@@ -17,6 +17,7 @@ use borrow.Author.Tests.{eq-eqb, lt-ltb, le-leb}
 use lib.Dec.{T, eqb}
 use lib.Ieee.{Float, nan, binary64, fits}
 use lib.ListN.{length, get_or, replicate, length-replicate}
+use Rattle.std.specs.Prelude.{Some}
 use Rattle.alpha.specs.Weight as Weight
 use Rattle.alpha.specs.Weight.{one}
 use Rattle.answer.specs.Answer.{words_of}
@@ -24,24 +25,20 @@ use Rattle.answer.specs.Lent.{Lent, lent, Whole}
 use Rattle.answer.specs.declared.Answer.{Answer}
 use Rattle.answer.specs.declared.ExitReason.TheVariants.{ReachedThreshold}
 use Rattle.answer.specs.declared.Finish.{Finish}
-use Rattle.answer.specs.declared.Outcome.{Outcome}
-use Rattle.answer.specs.declared.Outcome.TheVariants.{Accepted, Refused}
 use Rattle.boxed.specs.Range.{In}
 use Rattle.classification.specs.Entries.{given_by, sizes_of, fit_c_tuned, fit_nu_tuned, fit_one_class_tuned}
 use Rattle.classification.proofs.Accepts.{refused_apart}
-use Rattle.extreme.specs.declared.Choice.TheVariants.{Pair}
 use Rattle.fits.specs.Starts.{nothing, half, shared_to, one_class_to}
 use Rattle.judge.specs.Judge.{need, and_then, floor_good, floor_judged, c_judged, nu_judged, one_class_judged}
 use Rattle.judge.specs.Sizes.{count_good, sizes}
-use Rattle.judge.specs.declared.Judged.{Judged}
-use Rattle.judge.specs.declared.Judged.TheVariants.{Fine, Bad}
+use Rattle.judge.specs.Refusals.{number as number_of}
 use Rattle.kernel.specs.declared.Kind.TheVariants.{TwoClass, OneClass}
 use Rattle.lists.proofs.Prefix.{filled_at}
 use Rattle.orderless.proofs.Starts.{length_spread, spread_other}
 use Rattle.rounding.specs.Units.{NotNan}
 use Rattle.solver.specs.declared.Given.{Given}
 use Rattle.still.specs.Answered.{Reply, result_of, reply_of, fitted_still}
-use Rattle.still.specs.Entries.{StillLent, StillWhole, still_untouched, still_left, still_room_good, still_sizes_by, still_sizes, still_judged, still_decided, still_entered, still_c_tuned_sized, still_c_tuned, still_nu_tuned_sized, still_nu_tuned, still_one_class_tuned_sized, still_one_class_tuned}
+use Rattle.still.specs.Entries.{StillLent, StillWhole, still_untouched, still_left, still_room_good, still_sizes_by, still_sizes, still_judged, still_decided, still_c_tuned_sized, still_c_tuned, still_nu_tuned_sized, still_nu_tuned, still_one_class_tuned_sized, still_one_class_tuned}
 use Rattle.still.specs.Fits.{still_c, still_nu, still_one_class}
 use Rattle.still.specs.Same.{Same}
 use Rattle.still.proofs.Same.{c_same, nu_same, one_class_same}
@@ -60,13 +57,16 @@ use Rattle.promises.proofs.Iterations.{c_iterations, nu_iterations, one_class_it
 use Rattle.promises.proofs.Leaves.{finished_beyond}
 use Rattle.promises.proofs.Numbers.{c_judged_number, nu_judged_number, one_class_judged_number}
 use Rattle.promises.proofs.Threshold.{c_threshold, nu_threshold, one_class_threshold}
+use Rattle.std.specs.Prelude.{⊤, Result, Ok, Err}
+use Rattle.judge.specs.declared.Refusal.{Refusal}
+use Rattle.judge.specs.declared.Refusal.TheVariants.{Samples, Length, RetiredShrinking, Floor}
 
 -- ---- what a fit replies
 
 -- an acceptance, and behind the n coefficients what was lent
 record Replies (n : ℕ) (h : List Float) (r : Reply) : Type 0 where
   answer : Answer
-  out : r.out ≡ Accepted answer
+  out : r.out ≡ Ok answer
   result : Beyond nan n h r.result
 
 still_replies : (g : Given) (how : Finish) (m l : List ℕ) (top : Bool → Float) (term : ℕ → Float) (a : List Float) (budget : ℕ) (f h : List Float)
@@ -82,46 +82,45 @@ still_replies g how m l top term a budget f h = record {
 
 -- refused with shrinking off and on alike
 record Away (own : ℕ → Bool) (x : Float) (e : StillLent) (v : Bool → StillWhole) : Type 0 where
-  number : ℕ
-  index : ℕ
-  whole : (shrinking : Bool) → v shrinking ≡ still_untouched (Refused number index) e
-  known : (own number ≡ true) ⊎ FloorBad x number
+  refusal : Refusal
+  whole : (shrinking : Bool) → v shrinking ≡ still_untouched (Err refusal) e
+  known : (own (number_of refusal) ≡ true) ⊎ FloorBad x (number_of refusal)
 
--- or r with shrinking off, and 13 with it on; z is the sizes' number
-record Replied (n z : ℕ) (e : StillLent) (r : Reply) (v : Bool → StillWhole) : Type 0 where
-  room : z ≡ 0
+-- or r with shrinking off, and 13 with it on; z is the sizes' verdict
+record Replied (n : ℕ) (z : Result ⊤ Refusal) (e : StillLent) (r : Reply) (v : Bool → StillWhole) : Type 0 where
+  room : z ≡ Ok tt
   off : v false ≡ still_left n r e
-  on : v true ≡ still_untouched (Refused 13 0) e
+  on : v true ≡ still_untouched (Err RetiredShrinking) e
 
 -- j is what is judged before 14 and 13
-module _ (n : ℕ) (own : ℕ → Bool) (x : Float) (e : StillLent) (r : Reply) (j : Judged) (known : (number index : ℕ) → j ≡ Bad number index → own number ≡ true) where
-  abbrev sized : Judged → Bool → StillWhole
-  sized q s = still_decided (and_then q (need 13 (not s))) (still_left n r e) e
+module _ (n : ℕ) (own : ℕ → Bool) (x : Float) (e : StillLent) (r : Reply) (j : Result ⊤ Refusal) (known : (refusal : Refusal) → j ≡ Err refusal → own (number_of refusal) ≡ true) where
+  abbrev sized : Result ⊤ Refusal → Bool → StillWhole
+  sized q s = still_decided (and_then q (need RetiredShrinking (not s))) (still_left n r e) e
 
-  abbrev entry : ℕ → Bool → StillWhole
-  entry z s = still_entered z (still_decided (still_judged x s j) (still_left n r e) e) e
+  abbrev entry : Result ⊤ Refusal → Bool → StillWhole
+  entry z s = still_decided z (still_decided (still_judged x s j) (still_left n r e) e) e
 
-  judged_ways : Away own x e (entry 0) ⊎ Replied n 0 e r (entry 0)
-  unfolding still_entered still_decided and_then
+  judged_ways : Away own x e (entry (Ok tt)) ⊎ Replied n (Ok tt) e r (entry (Ok tt))
+  unfolding still_decided and_then
   judged_ways = go j refl
     where
-      floor : (b : Bool) → floor_good x ≡ b → Away own x e (sized (need 14 b)) ⊎ Replied n 0 e r (sized (need 14 b))
+      floor : (b : Bool) → floor_good x ≡ b → Away own x e (sized (need Floor b)) ⊎ Replied n (Ok tt) e r (sized (need Floor b))
       floor true h = inr (record { room = refl; off = refl; on = refl })
-      floor false h = inl (record { number = 14; index = 0; whole = λ s. refl; known = inr (refl, h) })
+      floor false h = inl (record { refusal = Floor; whole = λ s. refl; known = inr (refl, h) })
 
-      go : (q : Judged) → j ≡ q → Away own x e (sized (floor_judged x q)) ⊎ Replied n 0 e r (sized (floor_judged x q))
-      go (Bad k i) h = inl (record { number = k; index = i; whole = λ s. refl; known = inl (known k i h) })
-      go Fine h = floor (floor_good x) refl
+      go : (q : Result ⊤ Refusal) → j ≡ q → Away own x e (sized (floor_judged x q)) ⊎ Replied n (Ok tt) e r (sized (floor_judged x q))
+      go (Err q) h = inl (record { refusal = q; whole = λ s. refl; known = inl (known q h) })
+      go (Ok p) h = floor (floor_good x) refl
 
   entry_ways : own 1 ≡ true → own 2 ≡ true → (inputs : Bool) (m : List ℕ)
       → Away own x e (entry (still_sizes n inputs m e)) ⊎ Replied n (still_sizes n inputs m e) e r (entry (still_sizes n inputs m e))
-  unfolding still_entered still_sizes_by
+  unfolding still_decided still_sizes_by
   entry_ways one two inputs m = go (count_good n) (inputs && still_room_good n (length m) (length e.result) (length e.floats) (length e.bytes))
     where
-      go : (a b : Bool) → Away own x e (entry (cond a (cond b 0 2) 1)) ⊎ Replied n (cond a (cond b 0 2) 1) e r (entry (cond a (cond b 0 2) 1))
+      go : (a b : Bool) → Away own x e (entry (cond a (cond b (Ok tt) (Err Length)) (Err Samples))) ⊎ Replied n (cond a (cond b (Ok tt) (Err Length)) (Err Samples)) e r (entry (cond a (cond b (Ok tt) (Err Length)) (Err Samples)))
       go true true = judged_ways
-      go true false = inl (record { number = 2; index = 0; whole = λ s. refl; known = inl two })
-      go false b = inl (record { number = 1; index = 0; whole = λ s. refl; known = inl one })
+      go true false = inl (record { refusal = Length; whole = λ s. refl; known = inl two })
+      go false b = inl (record { refusal = Samples; whole = λ s. refl; known = inl one })
 
 -- ---- what is promised of any entry
 
@@ -130,10 +129,10 @@ record Entry (n : ℕ) (inputs : Bool) (m : List ℕ) (own : ℕ → Bool) (x : 
   reply : Reply
   replies : Replies n e.result reply
   ways : Away own x e v ⊎ Replied n (still_sizes n inputs m e) e reply v
-  same : (d : Lent) → sizes_of n inputs m d ≡ 0 → still_sizes n inputs m e ≡ 0 → Same n d e (w d) (v false)
+  same : (d : Lent) → sizes_of n inputs m d ≡ Ok tt → still_sizes n inputs m e ≡ Ok tt → Same n d e (w d) (v false)
 
 -- lists as long as the rule's entry wants them
-long_lists : (n : ℕ) (inputs : Bool) (m : List ℕ) (e : StillLent) → still_sizes n inputs m e ≡ 0 → (d : Lent) × (sizes_of n inputs m d ≡ 0)
+long_lists : (n : ℕ) (inputs : Bool) (m : List ℕ) (e : StillLent) → still_sizes n inputs m e ≡ Ok tt → (d : Lent) × (sizes_of n inputs m d ≡ Ok tt)
 unfolding sizes
 long_lists n inputs m e h =
     let q = room_still n inputs (length m) (length e.result) (length e.floats) (length e.bytes) h in
@@ -154,24 +153,23 @@ long_lists n inputs m e h =
       ),
     )
 
-unfoldable number_in : Outcome → ℕ
-number_in (Accepted a) = 0
-number_in (Refused number index) = number
+unfoldable number_in : Result Answer Refusal → ℕ
+number_in (Ok a) = 0
+number_in (Err refusal) = number_of refusal
 
-refused_number : (k i q j : ℕ) → ◌≡◌ {A = Outcome} (Refused k i) (Refused q j) → k ≡ q
-unfolding number_in
-refused_number k i q j h = ap number_in h
-
-word_in : (o : Outcome) → get_or (words_of o) 0 0 ≡ number_in o
+word_in : (o : Result Answer Refusal) → get_or (words_of o) 0 0 ≡ number_in o
 unfolding number_in words_of
-word_in (Accepted a) = refl
-word_in (Refused number index) = refl
+word_in (Ok a) = refl
+word_in (Err refusal) = refl
+
+same_refusal : (q r : Refusal) → ◌≡◌ {A = Result Answer Refusal} (Err q) (Err r) → q ≡ r
+same_refusal q r h = cc
 
 out_in : {v w : StillWhole} → v ≡ w → v.out ≡ w.out
 out_in h = ap (λ (q : StillWhole). q.out) h
 
 module _ {n : ℕ} {inputs : Bool} {m : List ℕ} {own : ℕ → Bool} {x : Float} {w : Lent → Whole} {e : StillLent} {v : Bool → StillWhole} (c : Entry n inputs m own x w e v) where
-  accepts_off : Replied n (still_sizes n inputs m e) e c.reply v → (v false).out ≡ Accepted c.replies.answer
+  accepts_off : Replied n (still_sizes n inputs m e) e c.reply v → (v false).out ≡ Ok c.replies.answer
   accepts_off q = out_in q.off ∙ c.replies.out
 
   any_number : own 0 ≡ false → own 13 ≡ false → StillNumbers own x (λ s. (v s).out)
@@ -187,19 +185,19 @@ module _ {n : ℕ} {inputs : Bool} {m : List ℕ} {own : ℕ → Bool} {x : Floa
 
       away : Away own x e v → StillNumbers own x (λ s. (v s).out)
       away q =
-          let is : (s : Bool) (k i : ℕ) → (v s).out ≡ Refused k i → (own k ≡ true) ⊎ FloorBad x k =
-          λ s k i h. let z = refused_number q.number q.index k i (sym (out_in (q.whole s)) ∙ h) in rw z at q.known
+          let is : (s : Bool) (r : Refusal) → (v s).out ≡ Err r → (own (number_of r) ≡ true) ⊎ FloorBad x (number_of r) =
+          λ s r h. let z = same_refusal q.refusal r (sym (out_in (q.whole s)) ∙ h) in rw z at q.known
           in
           record {
-            number = λ s k i h. elim (is s k i h) [
+            number = λ s r h. elim (is s r h) [
               | inl g ↦ inl g
               | inr g ↦ inr (inl g)
             ];
-            thirteen = λ a h. absurd (refused_apart q.number q.index a (sym (out_in (q.whole false)) ∙ h));
-            only = λ s i h. absurd (apart 13 no-thirteen (λ z. omega arith) (is s 13 i h));
-            last = λ k i h. out_in (q.whole true) ∙ sym (out_in (q.whole false)) ∙ h;
+            thirteen = λ a h. absurd (refused_apart q.refusal a (sym (out_in (q.whole false)) ∙ h));
+            only = λ s h. absurd (apart 13 no-thirteen (λ z. omega arith) (is s RetiredShrinking h));
+            last = λ r h. out_in (q.whole true) ∙ sym (out_in (q.whole false)) ∙ h;
             nought = λ s h.
-                let z : q.number ≡ 0 = sym (ap number_in (out_in (q.whole s))) ∙ sym (word_in (v s).out) ∙ h in
+                let z : number_of q.refusal ≡ 0 = sym (ap number_in (out_in (q.whole s))) ∙ sym (word_in (v s).out) ∙ h in
                 absurd (apart 0 no-nought (λ z. omega arith) (rw z at q.known));
           }
 
@@ -208,37 +206,37 @@ module _ {n : ℕ} {inputs : Bool} {m : List ℕ} {own : ℕ → Bool} {x : Floa
         number = number;
         thirteen = λ a h. out_in q.on;
         only = only;
-        last = λ k i h. absurd (off k i h);
+        last = λ r h. absurd (off r h);
         nought = nought;
       }
         where
-          off : (k i : ℕ) → (v false).out ≡ Refused k i → ⊥
-          off k i h = refused_apart k i c.replies.answer (sym h ∙ accepts_off q)
+          off : (r : Refusal) → (v false).out ≡ Err r → ⊥
+          off r h = refused_apart r c.replies.answer (sym h ∙ accepts_off q)
 
-          number : (s : Bool) (k i : ℕ) → (v s).out ≡ Refused k i → StillNumbered own x s k
-          number true k i h = inr (inr (sym (refused_number 13 0 k i (sym (out_in q.on) ∙ h)), refl))
-          number false k i h = absurd (off k i h)
+          number : (s : Bool) (r : Refusal) → (v s).out ≡ Err r → StillNumbered own x s (number_of r)
+          number true r h = inr (inr (sym (ap number_of (same_refusal RetiredShrinking r (sym (out_in q.on) ∙ h))), refl))
+          number false r h = absurd (off r h)
 
-          only : (s : Bool) (i : ℕ) → (v s).out ≡ Refused 13 i → (s ≡ true) × (a : Answer) × ((v false).out ≡ Accepted a)
-          only true i h = (refl, c.replies.answer, accepts_off q)
-          only false i h = absurd (off 13 i h)
+          only : (s : Bool) → (v s).out ≡ Err RetiredShrinking → (s ≡ true) × (a : Answer) × ((v false).out ≡ Ok a)
+          only true h = (refl, c.replies.answer, accepts_off q)
+          only false h = absurd (off RetiredShrinking h)
 
-          nought : (s : Bool) → get_or (words_of (v s).out) 0 0 ≡ 0 → (a : Answer) × ((v s).out ≡ Accepted a)
+          nought : (s : Bool) → get_or (words_of (v s).out) 0 0 ≡ 0 → (a : Answer) × ((v s).out ≡ Ok a)
           nought true h = let z : ◌≡◌ {A = ℕ} 13 0 = sym (ap number_in (out_in q.on)) ∙ sym (word_in (v true).out) ∙ h in absurd (omega arith)
           nought false h = (c.replies.answer, accepts_off q)
 
-  any_accepts : (shrinking : Bool) (a : Answer) → (v shrinking).out ≡ Accepted a → StillAccepts n inputs m shrinking w e a
+  any_accepts : (shrinking : Bool) (a : Answer) → (v shrinking).out ≡ Ok a → StillAccepts n inputs m shrinking w e a
   any_accepts shrinking a h = elim c.ways [
-    | inl q ↦ absurd (refused_apart q.number q.index a (sym (out_in (q.whole shrinking)) ∙ h))
+    | inl q ↦ absurd (refused_apart q.refusal a (sym (out_in (q.whole shrinking)) ∙ h))
     | inr q ↦ go shrinking h q
   ]
     where
-      go : (s : Bool) → (v s).out ≡ Accepted a → Replied n (still_sizes n inputs m e) e c.reply v → StillAccepts n inputs m s w e a
-      go true h q = absurd (refused_apart 13 0 a (sym (out_in q.on) ∙ h))
+      go : (s : Bool) → (v s).out ≡ Ok a → Replied n (still_sizes n inputs m e) e c.reply v → StillAccepts n inputs m s w e a
+      go true h q = absurd (refused_apart RetiredShrinking a (sym (out_in q.on) ∙ h))
       go false h q = record { off = refl; room = q.room; beside = λ d f. (c.same d f q.room).out ∙ h; enough = long_lists n inputs m e q.room }
 
   -- each coefficient is the one that the rule's entry has at home
-  any_places : (shrinking : Bool) (a : Answer) → (v shrinking).out ≡ Accepted a → (d : Lent) → sizes_of n inputs m d ≡ 0 → (k : ℕ) → k < n
+  any_places : (shrinking : Bool) (a : Answer) → (v shrinking).out ≡ Ok a → (d : Lent) → sizes_of n inputs m d ≡ Ok tt → (k : ℕ) → k < n
       → get_or (v shrinking).left.result k nan ≡ get_or (w d).left.home k nan
   any_places shrinking a h d f k K =
       let q = any_accepts shrinking a h in
@@ -246,21 +244,21 @@ module _ {n : ℕ} {inputs : Bool} {m : List ℕ} {own : ℕ → Bool} {x : Floa
 
   any_leaves : (shrinking : Bool) → StillLeaves n inputs m w e (v shrinking)
   any_leaves shrinking = elim c.ways [
-    | inl q ↦ rw (q.whole shrinking) (kept q.number q.index)
+    | inl q ↦ rw (q.whole shrinking) (kept q.refusal)
     | inr q ↦ go shrinking q
   ]
     where
-      kept : (k i : ℕ) → StillLeaves n inputs m w e (still_untouched (Refused k i) e)
-      kept k i = record {
-        untouched = λ q j h. refl;
-        coefficients = λ a h. absurd (refused_apart k i a h);
-        cleared = λ a h. absurd (refused_apart k i a h);
+      kept : (r : Refusal) → StillLeaves n inputs m w e (still_untouched (Err r) e)
+      kept r = record {
+        untouched = λ q h. refl;
+        coefficients = λ a h. absurd (refused_apart r a h);
+        cleared = λ a h. absurd (refused_apart r a h);
         result = beyond_refl _ _ _;
         floats = beyond_refl _ _ _;
         bytes = beyond_refl _ _ _;
       }
 
-      cleared : (z : still_sizes n inputs m e ≡ 0) → StillClear n (still_left n c.reply e).left
+      cleared : (z : still_sizes n inputs m e ≡ Ok tt) → StillClear n (still_left n c.reply e).left
       cleared z =
           let q = room_still n inputs (length m) (length e.result) (length e.floats) (length e.bytes) z in
           record {
@@ -269,9 +267,9 @@ module _ {n : ℕ} {inputs : Bool} {m : List ℕ} {own : ℕ → Bool} {x : Floa
           }
 
       go : (s : Bool) → Replied n (still_sizes n inputs m e) e c.reply v → StillLeaves n inputs m w e (v s)
-      go true q = rw q.on (kept 13 0)
+      go true q = rw q.on (kept RetiredShrinking)
       go false q = record {
-        untouched = λ k i h. absurd (refused_apart k i c.replies.answer (sym h ∙ accepts_off q));
+        untouched = λ r h. absurd (refused_apart r c.replies.answer (sym h ∙ accepts_off q));
         coefficients = any_places false;
         cleared = λ a h. rw q.off (cleared q.room);
         result = rw q.off c.replies.result;
@@ -300,13 +298,13 @@ module _ (tune : Tuning) (n : ℕ) (m l : List ℕ) (cpos cneg eps : Float) (bud
   still_c_leaves = any_leaves c_entry
 
   -- the rule's entry accepts with the same answer
-  pub still_c_accepts : (shrinking : Bool) (x : Answer) → (still_c_tuned tune n m l cpos cneg eps shrinking budget e).out ≡ Accepted x → StillAccepts n (eqb (length l) n) m shrinking (fit_c_tuned tune n m l cpos cneg eps false budget) e x
+  pub still_c_accepts : (shrinking : Bool) (x : Answer) → (still_c_tuned tune n m l cpos cneg eps shrinking budget e).out ≡ Ok x → StillAccepts n (eqb (length l) n) m shrinking (fit_c_tuned tune n m l cpos cneg eps false budget) e x
   still_c_accepts = any_accepts c_entry
 
 -- d is lent to the rule's entry, and suffices
-module _ (tune : Tuning) (n : ℕ) (m l : List ℕ) (cpos cneg eps : Float) (shrinking : Bool) (budget : ℕ) (e : StillLent) (x : Answer) (h : (still_c_tuned tune n m l cpos cneg eps shrinking budget e).out ≡ Accepted x)
-    (d : Lent) (suffices : sizes_of n (eqb (length l) n) m d ≡ 0) where
-  c_beside : (fit_c_tuned tune n m l cpos cneg eps false budget d).out ≡ Accepted x
+module _ (tune : Tuning) (n : ℕ) (m l : List ℕ) (cpos cneg eps : Float) (shrinking : Bool) (budget : ℕ) (e : StillLent) (x : Answer) (h : (still_c_tuned tune n m l cpos cneg eps shrinking budget e).out ≡ Ok x)
+    (d : Lent) (suffices : sizes_of n (eqb (length l) n) m d ≡ Ok tt) where
+  c_beside : (fit_c_tuned tune n m l cpos cneg eps false budget d).out ≡ Ok x
   c_beside = (still_c_accepts tune n m l cpos cneg eps budget e shrinking x h).beside d suffices
 
   -- what the result holds for sample s
@@ -320,12 +318,12 @@ module _ (tune : Tuning) (n : ℕ) (m l : List ℕ) (cpos cneg eps : Float) (shr
   still_c_threshold = c_threshold tune n m l cpos cneg eps false budget d x c_beside
 
 -- one cost for both labels
-module _ (tune : Tuning) (n : ℕ) (m l : List ℕ) (cost eps : Float) (shrinking : Bool) (budget : ℕ) (e : StillLent) (x : Answer) (h : (still_c_tuned tune n m l cost cost eps shrinking budget e).out ≡ Accepted x)
-    (d : Lent) (suffices : sizes_of n (eqb (length l) n) m d ≡ 0) (fit : T (fits binary64 cost)) where
+module _ (tune : Tuning) (n : ℕ) (m l : List ℕ) (cost eps : Float) (shrinking : Bool) (budget : ℕ) (e : StillLent) (x : Answer) (h : (still_c_tuned tune n m l cost cost eps shrinking budget e).out ≡ Ok x)
+    (d : Lent) (suffices : sizes_of n (eqb (length l) n) m d ≡ Ok tt) (fit : T (fits binary64 cost)) where
   pub still_c_box : (t i : ℕ) → i < n → In cost (weight_after (c_fit tune n l cost cost eps false) m d t i)
   still_c_box = c_box tune n m l cost eps false budget d x (c_beside tune n m l cost cost eps shrinking budget e x h d suffices) fit
 
-  pub still_c_no_nan : (t i j : ℕ) → pair_after (c_fit tune n l cost cost eps false) m d t ≡ Pair i j → NotNan (delta_after (c_fit tune n l cost cost eps false) m d t i j)
+  pub still_c_no_nan : (t i j : ℕ) → pair_after (c_fit tune n l cost cost eps false) m d t ≡ Some (i, j) → NotNan (delta_after (c_fit tune n l cost cost eps false) m d t i j)
   still_c_no_nan = c_no_nan tune n m l cost eps false budget d x (c_beside tune n m l cost cost eps shrinking budget e x h d suffices) fit
 
   -- the weight behind what the result holds for sample s
@@ -353,13 +351,13 @@ module _ (tune : Tuning) (n : ℕ) (m l : List ℕ) (nu eps : Float) (budget : �
   still_nu_leaves = any_leaves nu_entry
 
   -- the rule's entry accepts with the same answer
-  pub still_nu_accepts : (shrinking : Bool) (x : Answer) → (still_nu_tuned tune n m l nu eps shrinking budget e).out ≡ Accepted x → StillAccepts n (eqb (length l) n) m shrinking (fit_nu_tuned tune n m l nu eps false budget) e x
+  pub still_nu_accepts : (shrinking : Bool) (x : Answer) → (still_nu_tuned tune n m l nu eps shrinking budget e).out ≡ Ok x → StillAccepts n (eqb (length l) n) m shrinking (fit_nu_tuned tune n m l nu eps false budget) e x
   still_nu_accepts = any_accepts nu_entry
 
 -- d is lent to the rule's entry, and suffices
-module _ (tune : Tuning) (n : ℕ) (m l : List ℕ) (nu eps : Float) (shrinking : Bool) (budget : ℕ) (e : StillLent) (x : Answer) (h : (still_nu_tuned tune n m l nu eps shrinking budget e).out ≡ Accepted x)
-    (d : Lent) (suffices : sizes_of n (eqb (length l) n) m d ≡ 0) where
-  nu_beside : (fit_nu_tuned tune n m l nu eps false budget d).out ≡ Accepted x
+module _ (tune : Tuning) (n : ℕ) (m l : List ℕ) (nu eps : Float) (shrinking : Bool) (budget : ℕ) (e : StillLent) (x : Answer) (h : (still_nu_tuned tune n m l nu eps shrinking budget e).out ≡ Ok x)
+    (d : Lent) (suffices : sizes_of n (eqb (length l) n) m d ≡ Ok tt) where
+  nu_beside : (fit_nu_tuned tune n m l nu eps false budget d).out ≡ Ok x
   nu_beside = (still_nu_accepts tune n m l nu eps budget e shrinking x h).beside d suffices
 
   -- what the result holds for sample s
@@ -376,7 +374,7 @@ module _ (tune : Tuning) (n : ℕ) (m l : List ℕ) (nu eps : Float) (shrinking 
     pub still_nu_box : (t i : ℕ) → i < n → In one (weight_after (nu_fit tune n l nu eps false) m d t i)
     still_nu_box = nu_box tune n m l nu eps false budget d x nu_beside fit
 
-    pub still_nu_no_nan : (t i j : ℕ) → pair_after (nu_fit tune n l nu eps false) m d t ≡ Pair i j → NotNan (delta_after (nu_fit tune n l nu eps false) m d t i j)
+    pub still_nu_no_nan : (t i j : ℕ) → pair_after (nu_fit tune n l nu eps false) m d t ≡ Some (i, j) → NotNan (delta_after (nu_fit tune n l nu eps false) m d t i j)
     still_nu_no_nan = nu_no_nan tune n m l nu eps false budget d x nu_beside fit
 
     -- the weight behind what the result holds for sample s
@@ -404,13 +402,13 @@ module _ (tune : Tuning) (n : ℕ) (m : List ℕ) (nu eps : Float) (budget : ℕ
   still_one_class_leaves = any_leaves one_class_entry
 
   -- the rule's entry accepts with the same answer
-  pub still_one_class_accepts : (shrinking : Bool) (x : Answer) → (still_one_class_tuned tune n m nu eps shrinking budget e).out ≡ Accepted x → StillAccepts n true m shrinking (fit_one_class_tuned tune n m nu eps false budget) e x
+  pub still_one_class_accepts : (shrinking : Bool) (x : Answer) → (still_one_class_tuned tune n m nu eps shrinking budget e).out ≡ Ok x → StillAccepts n true m shrinking (fit_one_class_tuned tune n m nu eps false budget) e x
   still_one_class_accepts = any_accepts one_class_entry
 
 -- d is lent to the rule's entry, and suffices
-module _ (tune : Tuning) (n : ℕ) (m : List ℕ) (nu eps : Float) (shrinking : Bool) (budget : ℕ) (e : StillLent) (x : Answer) (h : (still_one_class_tuned tune n m nu eps shrinking budget e).out ≡ Accepted x)
-    (d : Lent) (suffices : sizes_of n true m d ≡ 0) where
-  one_class_beside : (fit_one_class_tuned tune n m nu eps false budget d).out ≡ Accepted x
+module _ (tune : Tuning) (n : ℕ) (m : List ℕ) (nu eps : Float) (shrinking : Bool) (budget : ℕ) (e : StillLent) (x : Answer) (h : (still_one_class_tuned tune n m nu eps shrinking budget e).out ≡ Ok x)
+    (d : Lent) (suffices : sizes_of n true m d ≡ Ok tt) where
+  one_class_beside : (fit_one_class_tuned tune n m nu eps false budget d).out ≡ Ok x
   one_class_beside = (still_one_class_accepts tune n m nu eps budget e shrinking x h).beside d suffices
 
   -- what the result holds for sample s
@@ -427,7 +425,7 @@ module _ (tune : Tuning) (n : ℕ) (m : List ℕ) (nu eps : Float) (shrinking : 
     pub still_one_class_box : (t i : ℕ) → i < n → In one (weight_after (one_class_fit tune n nu eps false) m d t i)
     still_one_class_box = one_class_box tune n m nu eps false budget d x one_class_beside fit
 
-    pub still_one_class_no_nan : (t i j : ℕ) → pair_after (one_class_fit tune n nu eps false) m d t ≡ Pair i j → NotNan (delta_after (one_class_fit tune n nu eps false) m d t i j)
+    pub still_one_class_no_nan : (t i j : ℕ) → pair_after (one_class_fit tune n nu eps false) m d t ≡ Some (i, j) → NotNan (delta_after (one_class_fit tune n nu eps false) m d t i j)
     still_one_class_no_nan = one_class_no_nan tune n m nu eps false budget d x one_class_beside fit
 
     -- the weight behind what the result holds for sample s

@@ -14,8 +14,6 @@ use Rattle.answer.specs.declared.Answer.{Answer}
 use Rattle.answer.specs.declared.ExitReason.{ExitReason}
 use Rattle.answer.specs.declared.ExitReason.TheVariants.{ReachedThreshold, ReachedIterations}
 use Rattle.answer.specs.declared.Finish.{Finish}
-use Rattle.answer.specs.declared.Outcome.{Outcome}
-use Rattle.answer.specs.declared.Outcome.TheVariants.{Accepted, Refused}
 use Rattle.boxed.specs.Range.{Entry, Divides}
 use Rattle.boxrun.proofs.Owned.{Owned, owned_started, owned_updated, trained_owned}
 use Rattle.boxrun.proofs.Quiet.{stop_quiet}
@@ -46,6 +44,9 @@ use Rattle.promises.proofs.Box.{floor_in, entries_in}
 use Rattle.promises.proofs.Entries.{general_judged_law, general_floored, general_served, c_judged_law, c_floored, c_served, nu_judged_law, nu_floored, nu_served, one_class_judged_law, one_class_floored, one_class_served}
 use Rattle.promises.proofs.Retired.{taken_ready}
 use Rattle.promises.proofs.Travel.{Served, ready_start}
+use Rattle.std.specs.Prelude.{Result, Ok, Err}
+use Rattle.judge.specs.declared.Refusal.{Refusal}
+use Rattle.judge.specs.declared.Refusal.TheVariants.{ShrunkAway}
 
 -- ---- an answer's reason, and the run's count
 
@@ -54,9 +55,9 @@ is_threshold ReachedThreshold = true
 is_threshold ReachedIterations = false
 
 -- of an outcome; a refusal has none
-unfoldable at_threshold : Outcome → Bool
-at_threshold (Accepted x) = is_threshold x.exit_reason
-at_threshold (Refused number index) = false
+unfoldable at_threshold : Result Answer Refusal → Bool
+at_threshold (Ok x) = is_threshold x.exit_reason
+at_threshold (Err refusal) = false
 
 reason_fewer : (i budget : ℕ) → is_threshold (reason_of i budget) ≡ true → i ≡ budget → ⊥
 unfolding reason_of is_threshold
@@ -67,10 +68,10 @@ unfolding is_threshold
 told_threshold r e = ap is_threshold e
 
 -- an accepted answer is that of a run that wasn't stuck, and has its reason
-settled_reason : (b : Bool) (g : Given) (how : Finish) (l : List ℕ) (budget : ℕ) (w : Full) (c h : List Float) (x : Answer) → (settled_by b g how l budget w c h).out ≡ Accepted x
+settled_reason : (b : Bool) (g : Given) (how : Finish) (l : List ℕ) (budget : ℕ) (w : Full) (c h : List Float) (x : Answer) → (settled_by b g how l budget w c h).out ≡ Ok x
     → (b ≡ false) × (is_threshold (reason_of w.run.iterations budget) ≡ is_threshold x.exit_reason)
 unfolding settled_by at_threshold
-settled_reason true g how l budget w c h x e = absurd (refused_apart 11 0 x e)
+settled_reason true g how l budget w c h x e = absurd (refused_apart ShrunkAway x e)
 settled_reason false g how l budget w c h x e = (refl, ap at_threshold e)
 
 not_refused : (s : Status) → stuck s ≡ false → s ≡ Status.Refused → ⊥
@@ -80,7 +81,7 @@ not_refused s h e = true≢false (sym (ap stuck e) ∙ h)
 -- ---- an entry's run
 
 module _ {k : Fit} {m : List ℕ} {budget : ℕ} {d : Lent} {o : Whole} (v : Served k m budget d o) (entries : (i : ℕ) → i < k.given.n * k.given.n → Entry (float_at m (8 * i)))
-    (floor : Divides k.given.floor) (x : Answer) (e : o.out ≡ Accepted x) (h : x.exit_reason ≡ ReachedThreshold) where
+    (floor : Divides k.given.floor) (x : Answer) (e : o.out ≡ Ok x) (h : x.exit_reason ≡ ReachedThreshold) where
   abbrev g : Given
   g = k.given
 
@@ -106,25 +107,25 @@ module _ {k : Fit} {m : List ℕ} {budget : ℕ} {d : Lent} {o : Whole} (v : Ser
 
 -- ---- each entry
 
-module _ (tune : Tuning) (n : ℕ) (m l : List ℕ) (c a p : List Float) (nurule : Bool) (eps : Float) (shrinking : Bool) (budget : ℕ) (d : Lent) (x : Answer) (e : (general_tuned tune n m l c a p nurule eps shrinking budget d).out ≡ Accepted x) where
+module _ (tune : Tuning) (n : ℕ) (m l : List ℕ) (c a p : List Float) (nurule : Bool) (eps : Float) (shrinking : Bool) (budget : ℕ) (d : Lent) (x : Answer) (e : (general_tuned tune n m l c a p nurule eps shrinking budget d).out ≡ Ok x) where
   pub general_threshold : x.exit_reason ≡ ReachedThreshold → Threshold (general_fit tune n l c a p nurule eps shrinking) m d budget
   general_threshold =
       served_threshold (general_served tune n m l c a p nurule eps shrinking budget d x e)
       (entries_in n m (general_fine n m l c a p eps budget (general_judged_law tune n m l c a p nurule eps shrinking budget d x e)).matrix) (floor_in tune.floor (general_floored tune n m l c a p nurule eps shrinking budget d x e)) x e
 
-module _ (tune : Tuning) (n : ℕ) (m l : List ℕ) (cpos cneg eps : Float) (shrinking : Bool) (budget : ℕ) (d : Lent) (x : Answer) (e : (fit_c_tuned tune n m l cpos cneg eps shrinking budget d).out ≡ Accepted x) where
+module _ (tune : Tuning) (n : ℕ) (m l : List ℕ) (cpos cneg eps : Float) (shrinking : Bool) (budget : ℕ) (d : Lent) (x : Answer) (e : (fit_c_tuned tune n m l cpos cneg eps shrinking budget d).out ≡ Ok x) where
   pub c_threshold : x.exit_reason ≡ ReachedThreshold → Threshold (c_fit tune n l cpos cneg eps shrinking) m d budget
   c_threshold =
       served_threshold (c_served tune n m l cpos cneg eps shrinking budget d x e)
       (entries_in n m (c_fine n m l cpos cneg eps budget (c_judged_law tune n m l cpos cneg eps shrinking budget d x e)).matrix) (floor_in tune.floor (c_floored tune n m l cpos cneg eps shrinking budget d x e)) x e
 
-module _ (tune : Tuning) (n : ℕ) (m l : List ℕ) (nu eps : Float) (shrinking : Bool) (budget : ℕ) (d : Lent) (x : Answer) (e : (fit_nu_tuned tune n m l nu eps shrinking budget d).out ≡ Accepted x) where
+module _ (tune : Tuning) (n : ℕ) (m l : List ℕ) (nu eps : Float) (shrinking : Bool) (budget : ℕ) (d : Lent) (x : Answer) (e : (fit_nu_tuned tune n m l nu eps shrinking budget d).out ≡ Ok x) where
   pub nu_threshold : x.exit_reason ≡ ReachedThreshold → Threshold (nu_fit tune n l nu eps shrinking) m d budget
   nu_threshold =
       served_threshold (nu_served tune n m l nu eps shrinking budget d x e)
       (entries_in n m (nu_fine n m l nu eps budget (nu_judged_law tune n m l nu eps shrinking budget d x e)).matrix) (floor_in tune.floor (nu_floored tune n m l nu eps shrinking budget d x e)) x e
 
-module _ (tune : Tuning) (n : ℕ) (m : List ℕ) (nu eps : Float) (shrinking : Bool) (budget : ℕ) (d : Lent) (x : Answer) (e : (fit_one_class_tuned tune n m nu eps shrinking budget d).out ≡ Accepted x) where
+module _ (tune : Tuning) (n : ℕ) (m : List ℕ) (nu eps : Float) (shrinking : Bool) (budget : ℕ) (d : Lent) (x : Answer) (e : (fit_one_class_tuned tune n m nu eps shrinking budget d).out ≡ Ok x) where
   pub one_class_threshold : x.exit_reason ≡ ReachedThreshold → Threshold (one_class_fit tune n nu eps shrinking) m d budget
   one_class_threshold =
       served_threshold (one_class_served tune n m nu eps shrinking budget d x e)
@@ -133,7 +134,7 @@ module _ (tune : Tuning) (n : ℕ) (m : List ℕ) (nu eps : Float) (shrinking : 
 -- ---- with retired samples
 
 module _ {tune : Tuning} {n : ℕ} {r : List ℕ} {nurule : Bool} {eps : Float} {shrinking : Bool} {budget : ℕ} {d : Lent} {y : Input} {o : Whole} (v : Taken tune n r nurule eps shrinking budget d y o)
-    (x : Answer) (e : o.out ≡ Accepted x) (h : x.exit_reason ≡ ReachedThreshold) where
+    (x : Answer) (e : o.out ≡ Ok x) (h : x.exit_reason ≡ ReachedThreshold) where
   abbrev k : Fit
   k = retired_fit tune n y r nurule eps
 
@@ -170,6 +171,6 @@ module _ {tune : Tuning} {n : ℕ} {r : List ℕ} {nurule : Bool} {eps : Float} 
   }
 
 module _ (tune : Tuning) (y : Input) (n : ℕ) (r : List ℕ) (nurule : Bool) (eps : Float) (shrinking : Bool) (budget : ℕ) (d : Lent) (x : Answer)
-    (e : (retired_for tune y n r nurule eps shrinking budget d).out ≡ Accepted x) where
+    (e : (retired_for tune y n r nurule eps shrinking budget d).out ≡ Ok x) where
   pub retired_threshold : x.exit_reason ≡ ReachedThreshold → ThresholdOver (stands_in r) (retired_fit tune n y r nurule eps) y.matrix d budget
   retired_threshold = taken_threshold (retired_taken tune n r nurule eps shrinking budget d y x e) x e

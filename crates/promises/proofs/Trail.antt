@@ -7,17 +7,16 @@ use mathlib.Core.Path.{◌≡◌, refl, sym, ap, ap₂, ◌∙◌}
 use native.Mathlib.Omega.{arith}
 use lib.Ieee.{Float, nan, binary64, add, sub, mul}
 use lib.ListN.{length, get_or}
+use Rattle.std.specs.Prelude.{Some}
 use Rattle.alpha.specs.Weight.{floor}
 use Rattle.answer.specs.Answer.{coefficient_of}
 use Rattle.answer.specs.Lent.{Lent, Whole}
 use Rattle.answer.specs.declared.Answer.{Answer}
-use Rattle.answer.specs.declared.Outcome.TheVariants.{Accepted}
 use Rattle.answer.specs.Solved.{stuck}
 use Rattle.boxrun.proofs.Owned.{Owned, runs_owned}
 use Rattle.classification.specs.Entries.{general_tuned, fit_c_tuned, fit_nu_tuned, fit_one_class_tuned, general_of, fit_c_of, fit_nu_of, fit_one_class_of}
 use Rattle.classification.specs.Still.{Still}
 use Rattle.classification.proofs.Still.{runs_still}
-use Rattle.extreme.specs.declared.Choice.TheVariants.{Pair}
 use Rattle.finder.specs.Found.{found_pair}
 use Rattle.fits.proofs.Loaded.{weight_loaded, sample_loaded, index_loaded}
 use Rattle.kernel.specs.Matrix.{entry_at}
@@ -49,6 +48,7 @@ use Rattle.promises.proofs.Entries.{general_served, c_served, nu_served, one_cla
 use Rattle.promises.proofs.Home.{served_at}
 use Rattle.promises.proofs.Iterations.{served_iterations}
 use Rattle.promises.proofs.Travel.{Served, ready_start, served_travels, served_ceilings}
+use Rattle.std.specs.Prelude.{Ok}
 
 -- ---- a longer run begins with the shorter one, whatever is trained, with shrinking on or off
 
@@ -127,7 +127,7 @@ module _ {k : Fit} {m : List ℕ} {budget : ℕ} {d : Lent} {o : Whole} (v : Ser
 
   -- ---- a step
 
-  module _ (plain : g.floor ≡ floor) (t i j : ℕ) (going : goes (after k m d t).run.status ≡ true) (pair : pair_after k m d t ≡ Pair i j) where
+  module _ (plain : g.floor ≡ floor) (t i j : ℕ) (going : goes (after k m d t).run.status ≡ true) (pair : pair_after k m d t ≡ Some (i, j)) where
     abbrev s : State
     s = (after k m d t).state
 
@@ -209,7 +209,7 @@ module _ {k : Fit} {m : List ℕ} {budget : ℕ} {d : Lent} {o : Whole} (v : Ser
 
   -- ---- what home answers
 
-  pub served_weights : (x : Answer) → o.out ≡ Accepted x → (s : ℕ) → s < g.n
+  pub served_weights : (x : Answer) → o.out ≡ Ok x → (s : ℕ) → s < g.n
       → get_or o.left.home s nan ≡ coefficient_of k.how (label_lent k m d s) (r_of k m d budget) (weight_after k m d budget s)
   unfolding trained
   served_weights x e s h =
@@ -224,7 +224,7 @@ module _ {k : Fit} {m : List ℕ} {budget : ℕ} {d : Lent} {o : Whole} (v : Ser
       (same_started p k.ceilings (start_from k m d)).at (2 * g.n + s) (omega arith) (omega arith)
       ∙ weight_loaded g.n k.ceilings k.weights k.terms d.floats v.room.floats g.n s (omega arith) h
 
-  pub served_trail : g.floor ≡ floor → (x : Answer) → o.out ≡ Accepted x → Trailed k m d budget x.iterations o.left.home
+  pub served_trail : g.floor ≡ floor → (x : Answer) → o.out ≡ Ok x → Trailed k m d budget x.iterations o.left.home
   served_trail plain x e = record {
     begins = served_begins;
     weights = served_weights x e;
@@ -236,36 +236,36 @@ module _ {k : Fit} {m : List ℕ} {budget : ℕ} {d : Lent} {o : Whole} (v : Ser
 -- ---- each entry: the finder's steps, by any tuning with the usual floor; and with shrinking off the trail
 
 pub general_found : (tune : Tuning) → tune.floor ≡ floor → (n : ℕ) (m l : List ℕ) (c a p : List Float) (nurule : Bool) (eps : Float) (shrinking : Bool) (budget : ℕ) (d : Lent) (x : Answer)
-    → (general_tuned tune n m l c a p nurule eps shrinking budget d).out ≡ Accepted x → (q : ℕ) → q < x.iterations → FoundStep (general_fit tune n l c a p nurule eps shrinking) m d budget q
+    → (general_tuned tune n m l c a p nurule eps shrinking budget d).out ≡ Ok x → (q : ℕ) → q < x.iterations → FoundStep (general_fit tune n l c a p nurule eps shrinking) m d budget q
 general_found tune plain n m l c a p nurule eps shrinking budget d x e q h =
     let v = general_served tune n m l c a p nurule eps shrinking budget d x e in served_found v plain q (rw (served_iterations v x e).0 at h)
 
-pub c_found : (tune : Tuning) → tune.floor ≡ floor → (n : ℕ) (m l : List ℕ) (cpos cneg eps : Float) (shrinking : Bool) (budget : ℕ) (d : Lent) (x : Answer) → (fit_c_tuned tune n m l cpos cneg eps shrinking budget d).out ≡ Accepted x
+pub c_found : (tune : Tuning) → tune.floor ≡ floor → (n : ℕ) (m l : List ℕ) (cpos cneg eps : Float) (shrinking : Bool) (budget : ℕ) (d : Lent) (x : Answer) → (fit_c_tuned tune n m l cpos cneg eps shrinking budget d).out ≡ Ok x
     → (q : ℕ) → q < x.iterations → FoundStep (c_fit tune n l cpos cneg eps shrinking) m d budget q
 c_found tune plain n m l cpos cneg eps shrinking budget d x e q h =
     let v = c_served tune n m l cpos cneg eps shrinking budget d x e in served_found v plain q (rw (served_iterations v x e).0 at h)
 
-pub nu_found : (tune : Tuning) → tune.floor ≡ floor → (n : ℕ) (m l : List ℕ) (nu eps : Float) (shrinking : Bool) (budget : ℕ) (d : Lent) (x : Answer) → (fit_nu_tuned tune n m l nu eps shrinking budget d).out ≡ Accepted x
+pub nu_found : (tune : Tuning) → tune.floor ≡ floor → (n : ℕ) (m l : List ℕ) (nu eps : Float) (shrinking : Bool) (budget : ℕ) (d : Lent) (x : Answer) → (fit_nu_tuned tune n m l nu eps shrinking budget d).out ≡ Ok x
     → (q : ℕ) → q < x.iterations → FoundStep (nu_fit tune n l nu eps shrinking) m d budget q
 nu_found tune plain n m l nu eps shrinking budget d x e q h = let v = nu_served tune n m l nu eps shrinking budget d x e in served_found v plain q (rw (served_iterations v x e).0 at h)
 
-pub one_class_found : (tune : Tuning) → tune.floor ≡ floor → (n : ℕ) (m : List ℕ) (nu eps : Float) (shrinking : Bool) (budget : ℕ) (d : Lent) (x : Answer) → (fit_one_class_tuned tune n m nu eps shrinking budget d).out ≡ Accepted x
+pub one_class_found : (tune : Tuning) → tune.floor ≡ floor → (n : ℕ) (m : List ℕ) (nu eps : Float) (shrinking : Bool) (budget : ℕ) (d : Lent) (x : Answer) → (fit_one_class_tuned tune n m nu eps shrinking budget d).out ≡ Ok x
     → (q : ℕ) → q < x.iterations → FoundStep (one_class_fit tune n nu eps shrinking) m d budget q
 one_class_found tune plain n m nu eps shrinking budget d x e q h =
     let v = one_class_served tune n m nu eps shrinking budget d x e in served_found v plain q (rw (served_iterations v x e).0 at h)
 
-pub general_trail : (n : ℕ) (m l : List ℕ) (c a p : List Float) (nurule : Bool) (eps : Float) (budget : ℕ) (d : Lent) (x : Answer) → (general_of n m l c a p nurule eps false budget d).out ≡ Accepted x
+pub general_trail : (n : ℕ) (m l : List ℕ) (c a p : List Float) (nurule : Bool) (eps : Float) (budget : ℕ) (d : Lent) (x : Answer) → (general_of n m l c a p nurule eps false budget d).out ≡ Ok x
     → Trailed (general_fit plain_tuning n l c a p nurule eps false) m d budget x.iterations (general_of n m l c a p nurule eps false budget d).left.home
 general_trail n m l c a p nurule eps budget d x e = served_trail (general_served plain_tuning n m l c a p nurule eps false budget d x e) refl refl x e
 
-pub c_trail : (n : ℕ) (m l : List ℕ) (cpos cneg eps : Float) (budget : ℕ) (d : Lent) (x : Answer) → (fit_c_of n m l cpos cneg eps false budget d).out ≡ Accepted x
+pub c_trail : (n : ℕ) (m l : List ℕ) (cpos cneg eps : Float) (budget : ℕ) (d : Lent) (x : Answer) → (fit_c_of n m l cpos cneg eps false budget d).out ≡ Ok x
     → Trailed (c_fit plain_tuning n l cpos cneg eps false) m d budget x.iterations (fit_c_of n m l cpos cneg eps false budget d).left.home
 c_trail n m l cpos cneg eps budget d x e = served_trail (c_served plain_tuning n m l cpos cneg eps false budget d x e) refl refl x e
 
-pub nu_trail : (n : ℕ) (m l : List ℕ) (nu eps : Float) (budget : ℕ) (d : Lent) (x : Answer) → (fit_nu_of n m l nu eps false budget d).out ≡ Accepted x
+pub nu_trail : (n : ℕ) (m l : List ℕ) (nu eps : Float) (budget : ℕ) (d : Lent) (x : Answer) → (fit_nu_of n m l nu eps false budget d).out ≡ Ok x
     → Trailed (nu_fit plain_tuning n l nu eps false) m d budget x.iterations (fit_nu_of n m l nu eps false budget d).left.home
 nu_trail n m l nu eps budget d x e = served_trail (nu_served plain_tuning n m l nu eps false budget d x e) refl refl x e
 
-pub one_class_trail : (n : ℕ) (m : List ℕ) (nu eps : Float) (budget : ℕ) (d : Lent) (x : Answer) → (fit_one_class_of n m nu eps false budget d).out ≡ Accepted x
+pub one_class_trail : (n : ℕ) (m : List ℕ) (nu eps : Float) (budget : ℕ) (d : Lent) (x : Answer) → (fit_one_class_of n m nu eps false budget d).out ≡ Ok x
     → Trailed (one_class_fit plain_tuning n nu eps false) m d budget x.iterations (fit_one_class_of n m nu eps false budget d).left.home
 one_class_trail n m nu eps budget d x e = served_trail (one_class_served plain_tuning n m nu eps false budget d x e) refl refl x e

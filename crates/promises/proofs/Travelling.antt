@@ -11,7 +11,6 @@ use Rattle.alpha.specs.Weight.{floor, weight, at_upper}
 use Rattle.alpha.specs.declared.Alpha.{Alpha}
 use Rattle.answer.specs.Lent.{Lent, Whole}
 use Rattle.answer.specs.declared.Answer.{Answer}
-use Rattle.answer.specs.declared.Outcome.TheVariants.{Accepted}
 use Rattle.boxrun.proofs.Owned.{Owned, owned_reconstructed, owned_moved, runs_owned}
 use Rattle.classification.specs.Entries.{general_tuned, fit_c_tuned}
 use Rattle.modes.specs.Modes.{travels, repaired}
@@ -36,6 +35,7 @@ use Rattle.promises.proofs.Entries.{general_served, c_served}
 use Rattle.promises.proofs.Iterations.{served_iterations}
 use Rattle.promises.proofs.Trail.{served_found}
 use Rattle.promises.proofs.Travel.{Served, ready_start, travelling_travels, served_ceilings}
+use Rattle.std.specs.Prelude.{Ok}
 
 module _ {k : Fit} {m : List ℕ} {budget : ℕ} {d : Lent} {o : Whole} (v : Served k m budget d o) (mode : k.given.mode ≡ Travelling) where
   abbrev g : Given
@@ -102,12 +102,12 @@ module _ {k : Fit} {m : List ℕ} {budget : ℕ} {d : Lent} {o : Whole} (v : Ser
 -- ---- the entries, with the usual floor
 
 pub general_own : (tune : Tuning) → tune.mode ≡ Travelling → tune.floor ≡ floor → (n : ℕ) (m l : List ℕ) (c a p : List Float) (nurule : Bool) (eps : Float) (shrinking : Bool) (budget : ℕ) (d : Lent) (x : Answer)
-    → (general_tuned tune n m l c a p nurule eps shrinking budget d).out ≡ Accepted x → (q : ℕ) → q < x.iterations → OwnStep (general_fit tune n l c a p nurule eps shrinking) m d budget q
+    → (general_tuned tune n m l c a p nurule eps shrinking budget d).out ≡ Ok x → (q : ℕ) → q < x.iterations → OwnStep (general_fit tune n l c a p nurule eps shrinking) m d budget q
 general_own tune mode plain n m l c a p nurule eps shrinking budget d x e q h =
     let v = general_served tune n m l c a p nurule eps shrinking budget d x e in served_own v mode q (rw (served_iterations v x e).0 at h) plain
 
 pub c_own : (tune : Tuning) → tune.mode ≡ Travelling → tune.floor ≡ floor → (n : ℕ) (m l : List ℕ) (cpos cneg eps : Float) (shrinking : Bool) (budget : ℕ) (d : Lent) (x : Answer)
-    → (fit_c_tuned tune n m l cpos cneg eps shrinking budget d).out ≡ Accepted x → (q : ℕ) → q < x.iterations → OwnStep (c_fit tune n l cpos cneg eps shrinking) m d budget q
+    → (fit_c_tuned tune n m l cpos cneg eps shrinking budget d).out ≡ Ok x → (q : ℕ) → q < x.iterations → OwnStep (c_fit tune n l cpos cneg eps shrinking) m d budget q
 c_own tune mode plain n m l cpos cneg eps shrinking budget d x e q h =
     let v = c_served tune n m l cpos cneg eps shrinking budget d x e in served_own v mode q (rw (served_iterations v x e).0 at h) plain
 

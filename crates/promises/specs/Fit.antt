@@ -1,5 +1,5 @@
 -- What each entry trains, and the run behind its answer.
-use Rattle.std.specs.Prelude.{ℕ, ◌≤◌, Bool, true, false, List, ◌≡◌, Float, length, get_or}
+use Rattle.std.specs.Prelude.{ℕ, ◌≤◌, Bool, true, false, List, ◌≡◌, Float, length, get_or, Option}
 use Rattle.std.specs.Float.{nan}
 use Rattle.alpha.specs.Weight.{one, minus_one}
 use Rattle.answer.specs.Answer.{coefficient_of}
@@ -9,7 +9,6 @@ use Rattle.answer.specs.declared.Finish.{Finish}
 use Rattle.answer.specs.declared.Finish.TheVariants.{Plain, Signed, Scaled}
 use Rattle.boxed.specs.Delta.{delta_at}
 use Rattle.classification.specs.Entries.{given_by, scratch_of}
-use Rattle.extreme.specs.declared.Choice.{Choice}
 use Rattle.fits.specs.Load.{loaded}
 use Rattle.fits.specs.Starts.{nothing, evenly, all_positive, costs_to, half, shared_to, one_class_to}
 use Rattle.kernel.specs.declared.Kind.TheVariants.{TwoClass, OneClass}
@@ -61,7 +60,7 @@ module _ (k : Fit) (m : List ℕ) (d : Lent) where
   weight_after t i = (alpha (problem_of k.given m) (after t).state i).value
 
   -- the pair with which the next pass steps, and its step before it is clipped
-  abbrev pub pair_after : ℕ → Choice
+  abbrev pub pair_after : ℕ → Option (ℕ × ℕ)
   pair_after t = pair_from k.given m (after t)
 
   abbrev pub delta_after : ℕ → ℕ → ℕ → Float

@@ -1,11 +1,10 @@
 -- What the entry with retired samples trains, and the run over what stands behind its answer.
-use Rattle.std.specs.Prelude.{ℕ, Bool, false, List, Float, get_or}
+use Rattle.std.specs.Prelude.{ℕ, Bool, false, List, Float, get_or, Option}
 use Rattle.std.specs.Float.{nan}
 use Rattle.answer.specs.Lent.{Lent}
 use Rattle.answer.specs.declared.Finish.TheVariants.{Plain}
 use Rattle.boxed.specs.Delta.{delta_at}
 use Rattle.classification.specs.Entries.{given_by}
-use Rattle.extreme.specs.declared.Choice.{Choice}
 use Rattle.kernel.specs.declared.Kind.TheVariants.{TwoClass}
 use Rattle.retired.specs.Silenced.{silenced}
 use Rattle.retired.specs.Differ.{Input}
@@ -42,7 +41,7 @@ module _ (stands : ℕ → Bool) (k : Fit) (m : List ℕ) (d : Lent) where
   weight_over t i = (alpha (problem_of k.given m) (after_over t).state i).value
 
   -- the pair that is chosen then, and its step before it is clipped
-  abbrev pub pair_over : ℕ → Choice
+  abbrev pub pair_over : ℕ → Option (ℕ × ℕ)
   pair_over t = chosen_over stands k.given m (after_over t).state
 
   abbrev pub delta_over : ℕ → ℕ → ℕ → Float

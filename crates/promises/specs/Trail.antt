@@ -1,5 +1,5 @@
 -- A finger on one weight: what a run has after t passes, and what the next one does to it. With shrinking off position s holds sample s.
-use Rattle.std.specs.Prelude.{ℕ, suc, ◌+◌, ◌<◌, List, ◌++◌, ◌≡◌, eqb, Float, get_or}
+use Rattle.std.specs.Prelude.{ℕ, suc, ◌+◌, ◌<◌, List, ◌++◌, ◌≡◌, eqb, Float, get_or, Some}
 use Rattle.std.specs.Float.{nan, binary64}
 use Rattle.std.specs.Float.Ieee.{add, sub, mul}
 use Rattle.alpha.specs.Weight.{weight}
@@ -13,7 +13,6 @@ use Rattle.solver.specs.Pass.{counted_down, runs}
 use Rattle.solver.specs.Run.{problem_of}
 use Rattle.state.specs.Fields.{gradient, alpha, diagonal, row, bound}
 use Rattle.state.specs.Lists.{Problem, State}
-use Rattle.extreme.specs.declared.Choice.TheVariants.{Pair as Choose}
 use Rattle.trace.specs.Trace.{Step, look_at, traced}
 use Rattle.update.specs.Update.{ceiling}
 use Rattle.update.specs.declared.Pair.{Pair}
@@ -70,7 +69,7 @@ module _ (k : Fit) (m : List ℕ) (d : Lent) where
 
   -- step q of a run with that budget, counted from 0, is that of the pass after q: of samples i and j, with the weights that it left them
   pub record ShownStep (budget q i j : ℕ) : Type 0 where
-    pub chosen : pair_after k m d q ≡ Choose i j
+    pub chosen : pair_after k m d q ≡ Some (i, j)
     pub steps : StepsWith q i j
     pub told : get_or (steps_taken k m d budget) q no_step ≡ record { i = i; j = j; sample_i = i; sample_j = j; left_i = weight_after k m d (suc q) i; left_j = weight_after k m d (suc q) j }
 

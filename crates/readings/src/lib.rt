@@ -6,7 +6,7 @@ ghost use Rattle.readings.specs.Order.{NamesSamples, crate_reading, home_reading
 ghost use Rattle.readings.specs.Shown.{shown_of};
 
 // The crate's reading, or the home reading.
-#[derive(Clone, Copy)]
+#[derive(Clone, Copy, Debug, PartialEq, Eq)]
 pub enum Reading {
     Crate,
     Home,
@@ -34,9 +34,8 @@ pub fn read_crate(res: &mut [f64], f: &[f64], u: &[u64], n: usize)
     requires { (n ≤ 512) × (n ≤ length res.old) × (7 * n ≤ length f.now) × (NamesSamples n u.now) }
     ensures { res.new ≡ crate_reading n u.now (weight_in n f.now) res.old }
 {
-    for i in 0..n {
-        let at = u[i] as usize;
-        res[i] = f[2 * n + at];
+    for (i, &at) in u[..n].iter().enumerate() {
+        res[i] = f[2 * n + at as usize];
     }
 }
 
@@ -45,8 +44,7 @@ pub fn read_home(res: &mut [f64], f: &[f64], u: &[u64], n: usize)
     requires { (n ≤ 512) × (n ≤ length res.old) × (7 * n ≤ length f.now) × (NamesSamples n u.now) }
     ensures { res.new ≡ home_reading n u.now (weight_in n f.now) res.old }
 {
-    for k in 0..n {
-        let home = u[k] as usize;
-        res[home] = f[2 * n + k];
+    for (k, &home) in u[..n].iter().enumerate() {
+        res[home as usize] = f[2 * n + k];
     }
 }

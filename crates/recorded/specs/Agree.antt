@@ -15,6 +15,10 @@ pattern_in f k = to_bits binary64 (get_or f k nan)
 abbrev pub number_in : List ℕ → ℕ → ℕ
 number_in u k = get_or u k 0
 
+-- the pattern, by p, of place k of a list, which past its end is read as x
+abbrev pub pattern_by : {A : Type 0} → (A → ℕ) → A → List A → ℕ → ℕ
+pattern_by p x d k = p (get_or d k x)
+
 abbrev pub word_from : List ℕ → ℕ → ℕ → ℕ
 word_from b at k = word_of b (at + k)
 
@@ -25,11 +29,10 @@ mark_of k = 0x4330000000000000 + k % 4096
 unfoldable pub byte_mark_of : ℕ → ℕ
 byte_mark_of k = 2 + k % 251
 
-unfoldable pub float_marks_to : List Float → ℕ → List Float
-float_marks_to f zero = f
-float_marks_to f (suc k) = set (float_marks_to f k) k (of_bits binary64 (mark_of k))
+abbrev pub float_mark_of : ℕ → Float
+float_mark_of k = of_bits binary64 (mark_of k)
 
-unfoldable pub marks_to : (ℕ → ℕ) → List ℕ → ℕ → List ℕ
+unfoldable pub marks_to : {A : Type 0} → (ℕ → A) → List A → ℕ → List A
 marks_to mark u zero = u
 marks_to mark u (suc k) = set (marks_to mark u k) k (mark k)
 

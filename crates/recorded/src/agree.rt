@@ -1,100 +1,144 @@
 // Lists are marked before a call and compared after it, place for place and bit for bit.
-ghost use Rattle.std.specs.Prelude.{◌≡◌, ◌+◌, ◌≤◌, ◌<◌, length};
-ghost use Rattle.recorded.specs.Agree.{same_below, pattern_in, number_in, word_from, loose_in, loose_from, mark_of, byte_mark_of, float_marks_to, marks_to, left_of, reading_of, loose_of};
+ghost use Rattle.std.specs.Prelude.{◌≡◌, ◌+◌, ◌≤◌, ◌<◌, ℕ, List, length};
+ghost use Rattle.std.specs.Float.{binary64, nan};
+ghost use Rattle.std.specs.Float.Ieee.{to_bits};
+ghost use Rattle.recorded.specs.Agree.{same_below, pattern_in, number_in, pattern_by, word_from, loose_in, loose_from, mark_of, byte_mark_of, float_mark_of, marks_to, left_of, reading_of, loose_of};
 
 use crate::layout::word;
 
-fn mark(k: usize) -> u64
+#[tactic(auto, unfolding(crate::specs::Agree::mark_of))]
+fn number_mark(k: usize) -> u64
     ensures { result ≡ mark_of k }
 {
     0x4330_0000_0000_0000 + (k % 4096) as u64
 }
 
+#[tactic(auto, unfolding(crate::specs::Agree::byte_mark_of))]
 fn byte_mark(k: usize) -> u8
     ensures { result ≡ byte_mark_of k }
 {
     2 + (k % 251) as u8
 }
 
-pub fn mark_floats(f: &mut [f64])
-    ensures { f.new ≡ float_marks_to f.old (length f.old) }
-{
-    let n = f.len();
-    for k in 0..n {
-        f[k] = wire::float_of(mark(k));
+// What a list is marked with: a value for each place, told from others by its pattern.
+pub trait Mark: Copy {
+    ghost mark_at: { ℕ → Self };
+
+    ghost mark_pattern_at: { ℕ → ℕ };
+
+    ghost pattern: { Self → ℕ };
+
+    // what a list is read as past its end
+    ghost beyond: { Self };
+
+    fn mark(k: usize) -> Self
+        ensures { result ≡ mark_at k };
+
+    fn mark_pattern(k: usize) -> u64
+        ensures { result ≡ mark_pattern_at k };
+
+    fn pattern_of(self) -> u64
+        ensures { result ≡ pattern self };
+}
+
+impl Mark for f64 {
+    ghost mark_at = { float_mark_of };
+
+    ghost mark_pattern_at = { mark_of };
+
+    ghost pattern = { to_bits binary64 };
+
+    ghost beyond = { nan };
+
+    fn mark(k: usize) -> f64 {
+        wire::float_of(number_mark(k))
+    }
+
+    fn mark_pattern(k: usize) -> u64 {
+        number_mark(k)
+    }
+
+    fn pattern_of(self) -> u64 {
+        wire::pattern_of(self)
     }
 }
 
-pub fn mark_numbers(u: &mut [u64])
-    ensures { u.new ≡ marks_to mark_of u.old (length u.old) }
-{
-    let n = u.len();
-    for k in 0..n {
-        u[k] = mark(k);
+impl Mark for u64 {
+    ghost mark_at = { mark_of };
+
+    ghost mark_pattern_at = { mark_of };
+
+    ghost pattern = { λ w. w };
+
+    ghost beyond = { 0 };
+
+    fn mark(k: usize) -> u64 {
+        number_mark(k)
+    }
+
+    fn mark_pattern(k: usize) -> u64 {
+        number_mark(k)
+    }
+
+    fn pattern_of(self) -> u64 {
+        self
     }
 }
 
-pub fn mark_bytes(y: &mut [u8])
-    ensures { y.new ≡ marks_to byte_mark_of y.old (length y.old) }
-{
-    let n = y.len();
-    for k in 0..n {
-        y[k] = byte_mark(k);
+impl Mark for u8 {
+    ghost mark_at = { byte_mark_of };
+
+    ghost mark_pattern_at = { byte_mark_of };
+
+    ghost pattern = { λ w. w };
+
+    ghost beyond = { 0 };
+
+    fn mark(k: usize) -> u8 {
+        byte_mark(k)
+    }
+
+    fn mark_pattern(k: usize) -> u64 {
+        u64::from(byte_mark(k))
+    }
+
+    fn pattern_of(self) -> u64 {
+        u64::from(self)
     }
 }
 
-fn left(used: usize, k: usize) -> u64
-    ensures { result ≡ left_of mark_of used k }
+#[tactic(auto, unfolding(crate::specs::Agree::marks_to))]
+pub fn mark_all<T: Mark>(d: &mut [T])
+    ensures { d.new ≡ marks_to T.mark_at d.old (length d.old) }
 {
-    if k < used { 0 } else { mark(k) }
-}
-
-fn byte_left(used: usize, k: usize) -> u8
-    ensures { result ≡ left_of byte_mark_of used k }
-{
-    if k < used { 0 } else { byte_mark(k) }
-}
-
-// Whether the first used floats are +0 and the others as they were marked.
-pub fn floats_left(f: &[f64], used: usize) -> bool
-    ensures { result ≡ same_below (pattern_in f.now) (left_of mark_of used) (length f.now) }
-{
-    let n = f.len();
-    let mut same = true;
-    for k in 0..n {
-        let x = wire::pattern_of(f[k]);
-        let y = left(used, k);
-        same = same & (x == y);
+    // by places: of what is written through `iter_mut().enumerate()` no proof knows the values
+    for k in 0..d.len() {
+        d[k] = T::mark(k);
     }
-    same
 }
 
-pub fn numbers_left(u: &[u64], used: usize) -> bool
-    ensures { result ≡ same_below (number_in u.now) (left_of mark_of used) (length u.now) }
+#[tactic(auto, unfolding(crate::specs::Agree::left_of))]
+fn left<T: Mark>(used: usize, k: usize) -> u64
+    ensures { result ≡ left_of T.mark_pattern_at used k }
 {
-    let n = u.len();
-    let mut same = true;
-    for k in 0..n {
-        let x = u[k];
-        let y = left(used, k);
-        same = same & (x == y);
-    }
-    same
+    if k < used { 0 } else { T::mark_pattern(k) }
 }
 
-pub fn bytes_left(y: &[u8], used: usize) -> bool
-    ensures { result ≡ same_below (number_in y.now) (left_of byte_mark_of used) (length y.now) }
+fn pattern_at<T: Mark>(d: &[T], k: usize) -> u64
+    requires { k < length d.now }
+    ensures { result ≡ pattern_by T.pattern T.beyond d.now k }
 {
-    let n = y.len();
-    let mut same = true;
-    for k in 0..n {
-        let x = y[k];
-        let z = byte_left(used, k);
-        same = same & (x == z);
-    }
-    same
+    d[k].pattern_of()
 }
 
+// Whether the first used places hold 0, a float +0, and the others are as they were marked.
+pub fn all_left<T: Mark>(d: &[T], used: usize) -> bool
+    ensures { result ≡ same_below (pattern_by T.pattern T.beyond d.now) (left_of T.mark_pattern_at used) (length d.now) }
+{
+    (0..d.len()).all(|k| pattern_at(d, k) == left::<T>(used, k))
+}
+
+#[tactic(auto, unfolding(crate::specs::Agree::reading_of))]
 fn reading(b: &[u8], at: usize, n: usize, k: usize) -> u64
     requires { (at ≤ 300000) × (n ≤ 512) }
     ensures { result ≡ reading_of b.now at n k }
@@ -102,7 +146,7 @@ fn reading(b: &[u8], at: usize, n: usize, k: usize) -> u64
     if k < n {
         return word(b, at + k);
     }
-    mark(k)
+    number_mark(k)
 }
 
 // Whether a reading has the n words from word at on in its first places, and the others are as they were marked.
@@ -110,14 +154,7 @@ pub fn reading_told(d: &[f64], b: &[u8], at: usize, n: usize) -> bool
     requires { (at ≤ 300000) × (n ≤ 512) }
     ensures { result ≡ same_below (pattern_in d.now) (reading_of b.now at n) (length d.now) }
 {
-    let m = d.len();
-    let mut same = true;
-    for k in 0..m {
-        let x = wire::pattern_of(d[k]);
-        let y = reading(b, at, n, k);
-        same = same & (x == y);
-    }
-    same
+    (0..d.len()).all(|k| wire::pattern_of(d[k]) == reading(b, at, n, k))
 }
 
 // Whether the n words from word at on are those that follow them.
@@ -125,15 +162,10 @@ pub fn twice(b: &[u8], at: usize, n: usize) -> bool
     requires { (at ≤ 300000) × (n ≤ 512) }
     ensures { result ≡ same_below (word_from b.now at) (word_from b.now (at + n)) n }
 {
-    let mut same = true;
-    for k in 0..n {
-        let x = word(b, at + k);
-        let y = word(b, at + n + k);
-        same = same & (x == y);
-    }
-    same
+    (0..n).all(|k| word(b, at + k) == word(b, at + n + k))
 }
 
+#[tactic(auto, unfolding(crate::specs::Agree::loose_of))]
 pub fn loose(z: u64, i: usize, w: u64) -> u64
     ensures { result ≡ loose_of z i w }
 {
@@ -149,11 +181,5 @@ pub fn answer_told(a: &[u64], b: &[u8], at: usize, z: u64) -> bool
     requires { (at ≤ 300000) × (9 ≤ length a.now) }
     ensures { result ≡ same_below (loose_in z a.now) (loose_from z b.now at) 9 }
 {
-    let mut same = true;
-    for k in 0..9 {
-        let x = loose(z, k, a[k]);
-        let y = loose(z, k, word(b, at + k));
-        same = same & (x == y);
-    }
-    same
+    (0..9).all(|k| loose(z, k, a[k]) == loose(z, k, word(b, at + k)))
 }

@@ -2,4 +2,5 @@
 #![tactic(auto)]
 
 pub mod agree;
+pub mod entry;
 pub mod layout;

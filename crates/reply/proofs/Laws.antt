@@ -19,8 +19,6 @@ use Rattle.answer.specs.Answer.{finished_to, support_of, rho_of, obj_of, ratio_o
 use Rattle.answer.specs.Lent.{Lent}
 use Rattle.answer.specs.declared.Answer.{Answer}
 use Rattle.answer.specs.declared.Finish.{Finish}
-use Rattle.answer.specs.declared.Outcome.{Outcome}
-use Rattle.answer.specs.declared.Outcome.TheVariants.{Accepted}
 use Rattle.classification.specs.Entries.{fitted}
 use Rattle.course.specs.Filled.{diagonal_in}
 use Rattle.course.proofs.Laws.{length_diagonal, diagonal_other}
@@ -37,13 +35,15 @@ use Rattle.still.specs.Answered.{Reply, Answers, weights_to, result_of, reply_of
 use Rattle.still.specs.Entries.{still_lent, StillWhole, still_whole, still_left}
 use Rattle.still.proofs.Fitted.{ByLabel, length_weights, weights_at, two_fields, fitted_from, from_any}
 use Rattle.still.proofs.Same.{room_nu}
+use Rattle.std.specs.Prelude.{Result, Ok}
+use Rattle.judge.specs.declared.Refusal.{Refusal}
 
 module _ (g : Given) (how : Finish) (m l : List ℕ) (top : Bool → Float) (term : ℕ → Float) (budget : ℕ) where
   pub reply_by : (f h : List Float) (steps : ℕ) (going : Bool) (v : Level) (obj : Float) (h1 h2 : List Float) (a : Answer)
       → v ≡ level_in g m l top (read_in g.nu g.n f) → obj ≡ objective_in g m l top (read_in g.nu g.n f) term
       → h1 ≡ spread (λ k. get_or f (g.n + k) nan) h g.n → h2 ≡ finished_to how l v.r h1 g.n
       → a ≡ record { rho = rho_of how v; r = ratio_of g.nu v; obj = obj_of how v obj; iterations = steps; exit_reason = reason_of steps budget; support = support_of h2 g.n }
-      → ◌≡◌ {A = Reply} (record { out = Accepted a; result = h2 }) (reply_of g how m l top term budget (course f steps going) h)
+      → ◌≡◌ {A = Reply} (record { out = Ok a; result = h2 }) (reply_of g how m l top term budget (course f steps going) h)
   unfolding reply_of result_of
   reply_by f h steps going v obj h1 h2 a ev eo e1 e2 ea = rw (ea, e2, e1, eo, ev)
 
@@ -93,7 +93,7 @@ filled_over z k x t e long =
 pub ready_taken : {g : Given} {m l : List ℕ} {f : List Float} → SheetReady g m l f → SheetReady g m l (take (5 * g.n) f)
 ready_taken {g} {m} {l} {f} R = record { matrix = R.matrix; square = R.square; labels = R.labels; floats = le_of_eq (sym (length-take-le (5 * g.n) f R.floats)) }
 
-pub cleared_by : (n : ℕ) (o : Outcome) (h h0 f0 f1 f2 x : List Float) (y0 y2 : List ℕ) (r : Reply) → ◌≡◌ {A = Reply} (record { out = o; result = h }) r → f1 ≡ x ++ drop (5 * n) f0 → length x ≡ 5 * n → 5 * n ≤ length f0
+pub cleared_by : (n : ℕ) (o : Result Answer Refusal) (h h0 f0 f1 f2 x : List Float) (y0 y2 : List ℕ) (r : Reply) → ◌≡◌ {A = Reply} (record { out = o; result = h }) r → f1 ≡ x ++ drop (5 * n) f0 → length x ≡ 5 * n → 5 * n ≤ length f0
     → f2 ≡ filled_to Weight.zero f1 (5 * n) → y2 ≡ filled_to 0 y0 n → ◌≡◌ {A = StillWhole} (still_whole o h f2 y2) (still_left n r (still_lent h0 f0 y0))
 cleared_by n o h h0 f0 f1 f2 x y0 y2 r er e1 ex long e2 ey = rw (ey, e2, e1, filled_over Weight.zero (5 * n) x f0 ex long, ← er)
 

@@ -1,5 +1,5 @@
 // A fit without an order table: the start weights into their field, the run, what it answers, and the used scratch cleared.
-// The parameters f and l are the lent floats and labels, cpos and cneg the ceilings by label, p the linear term: orderless/specs/Sheet.antt.
+// The parameters f and l are the lent floats and labels, p the linear term: orderless/specs/Sheet.antt.
 #![tactic(auto)]
 
 ghost use Rattle.std.specs.Prelude.{◌≡◌, ◌+◌, ◌*◌, ◌≤◌, ◌<◌, T, length, get_or, take};
@@ -14,9 +14,11 @@ ghost use Rattle.sheet.specs.Ready.{SheetReady};
 ghost use Rattle.still.specs.Answered.{Reply, weights_to, reply_of};
 ghost use Rattle.still.specs.Entries.{still_lent, StillWhole, still_whole, still_left, still_room_good, still_sizes_by};
 
-use answer::{Answer, Finish, Outcome};
+use answer::{Answer, Finish};
 use course::Went;
+use judge::Refusal;
 use rho::Level;
+use sheet::Costs;
 use solver::Given;
 
 // The start weights into their field.
@@ -70,21 +72,20 @@ fn reply(
     g: Given,
     how: Finish,
     p: f64,
-    cpos: f64,
-    cneg: f64,
+    costs: Costs,
     budget: usize,
     w: Went,
-) -> Outcome
+) -> Result<Answer, Refusal>
     requires { (SheetReady g m.now l.now f.now) × (g.n ≤ length h.old) }
     ensures { ◌≡◌ {A = Reply} (replied result h.new)
-        (reply_of g how m.now l.now (ceilings_of cpos cneg) (λ k. p) budget (course f.now w.steps w.going) h.old) }
+        (reply_of g how m.now l.now (ceilings_of costs.pos costs.neg) (λ k. p) budget (course f.now w.steps w.going) h.old) }
 {
     let n = g.n;
-    let v = course::level(f, l, m, g, cpos, cneg);
-    let obj = course::objective(f, l, m, g, p, cpos, cneg);
+    let v = course::level(f, l, m, g, costs);
+    let obj = course::objective(f, l, m, g, p, costs);
     give(h, f, n);
     answer::finish_reading(h, l, n, how, v.r);
-    Outcome::Accepted(answered(h, g, how, v, obj, w.steps, budget))
+    Ok(answered(h, g, how, v, obj, w.steps, budget))
 }
 
 // From the start weights a to the answer.
@@ -97,19 +98,18 @@ fn fit(
     how: Finish,
     a: &[f64],
     p: f64,
-    cpos: f64,
-    cneg: f64,
+    costs: Costs,
     budget: usize,
-) -> Outcome
+) -> Result<Answer, Refusal>
     requires { (SheetReady g m.now l.now f.old) × (1 ≤ g.n) × (budget ≤ 10000000) × (g.n ≤ length a.now) × (g.n ≤ length h.old) × (T (fits binary64 p)) }
     ensures { ◌≡◌ {A = Reply} (replied result h.new)
-        (reply_of g how m.now l.now (ceilings_of cpos cneg) (λ k. p) budget
-        (orderless g m.now l.now (ceilings_of cpos cneg) (λ k. p)
+        (reply_of g how m.now l.now (ceilings_of costs.pos costs.neg) (λ k. p) budget
+        (orderless g m.now l.now (ceilings_of costs.pos costs.neg) (λ k. p)
         (diagonal_in g m.now (weights_to g.n a.now f.old g.n) g.n) budget) h.old) }
 {
     load(f, a, g.n);
-    let w = course::train(f, l, m, g, p, cpos, cneg, budget);
-    reply(h, f, l, m, g, how, p, cpos, cneg, budget, w)
+    let w = course::train(f, l, m, g, p, costs, budget);
+    reply(h, f, l, m, g, how, p, costs, budget, w)
 }
 
 // The same in the first 5n of the lent floats, with the used scratch cleared: every entry ends here.
@@ -126,7 +126,7 @@ pub fn fit_cleared(
     cpos: f64,
     cneg: f64,
     budget: u64,
-) -> Outcome
+) -> Result<Answer, Refusal>
     requires { (SheetReady g m.now l.now f.old) × (1 ≤ g.n) × (budget ≤ 10000000) × (g.n ≤ length a.now) × (g.n ≤ length h.old) × (g.n ≤ length y.old) × (T (fits binary64 p)) }
     ensures { ◌≡◌ {A = StillWhole} (still_whole result h.new f.new y.new)
         (still_left g.n (reply_of g how m.now l.now (ceilings_of cpos cneg) (λ k. p) budget
@@ -144,15 +144,18 @@ pub fn fit_cleared(
         how,
         a,
         p,
-        cpos,
-        cneg,
+        Costs {
+            pos: cpos,
+            neg: cneg,
+        },
         budget as usize,
     );
-    lists::fill_floats(f, 0.0, 5 * n);
-    lists::fill_bytes(y, 0, n);
+    lists::fill(f, 0.0, 5 * n);
+    lists::fill(y, 0, n);
     o
 }
 
+#[tactic(auto, using(judge::proofs::Lengths::square))]
 fn roomy(n: usize, m: usize, h: usize, f: usize, y: usize) -> bool
     requires { n ≤ 512 }
     ensures { result ≡ still_room_good n m h f y }
@@ -160,13 +163,11 @@ fn roomy(n: usize, m: usize, h: usize, f: usize, y: usize) -> bool
     (m == 8 * (n * n)) & (n <= h) & (5 * n <= f) & (n <= y)
 }
 
-// 0 where the sizes are right, else 1 or 2. n may be any number at all.
-pub fn sized(n: usize, inputs: bool, m: usize, h: usize, f: usize, y: usize) -> u64
+// Refusals 1 and 2. n may be any number at all.
+#[tactic(auto, unfolding(still::specs::Entries::still_sizes_by))]
+pub fn sized(n: usize, inputs: bool, m: usize, h: usize, f: usize, y: usize) -> Result<(), Refusal>
     ensures { result ≡ still_sizes_by n inputs m h f y }
 {
-    if (0 < n) & (n <= 512) {
-        if inputs & roomy(n, m, h, f, y) { 0 } else { 2 }
-    } else {
-        1
-    }
+    judge::need((0 < n) & (n <= 512), Refusal::Samples)?;
+    judge::need(inputs & roomy(n, m, h, f, y), Refusal::Length)
 }

@@ -14,7 +14,6 @@ use Rattle.answer.specs.Answer.{coefficient_of, finished_to, support_of, rho_of,
 use Rattle.answer.specs.Lent.{Lent, lent, Whole, whole, cleared}
 use Rattle.answer.specs.Solved.{stuck, read, crate_of, home_of, level_at, settled_by, settled_of, closed_with}
 use Rattle.answer.specs.declared.Finish.TheVariants.{Plain}
-use Rattle.answer.specs.declared.Outcome.TheVariants.{Accepted}
 use Rattle.classification.specs.Entries.{given_by, scratch_of}
 use Rattle.fits.specs.Load.{loaded_floats, loaded_numbers, loaded_labels, loaded}
 use Rattle.fits.specs.Starts.{nothing}
@@ -50,6 +49,7 @@ use Rattle.retired.specs.Silenced.{silenced}
 use Rattle.retired.specs.Differ.{Input, DifferRetired}
 use Rattle.retired.specs.Entry.{stands_in, kept, answered_over, fitted_over}
 use Rattle.retired.proofs.Independent.{kept_at, kept_place, zero_low, lent_alike, answered_same}
+use Rattle.std.specs.Prelude.{Ok}
 
 pub silenced_place : (r : List ℕ) (n : ℕ) → n ≤ 512 → (a : List Float) (k : ℕ) → k < n → get_or (silenced r a n) k nan ≡ cond (stands_in r k) (get_or a k nan) nan
 unfolding silenced
@@ -74,8 +74,8 @@ module _ (g : Given) (l r : List ℕ) (budget : ℕ) (d : Lent) (lc : g.n ≤ le
 
   glue : (st : State) (i : ℕ) (v v' : Level) (c c' h h' : List Float) (z z' : State) → v ≡ v' → c ≡ c' → h ≡ h' → z ≡ z'
       → ◌≡◌ {A = Whole}
-      (whole (Accepted (record { rho = v.rho; r = ratio_of g.nu v; obj = objective_over (stands_in r) g.n st.floats; iterations = i; exit_reason = reason_of i budget; support = support_of h g.n })) c h z.floats z.numbers z.labels)
-      (whole (Accepted (record { rho = v'.rho; r = ratio_of g.nu v'; obj = objective_over (stands_in r) g.n st.floats; iterations = i; exit_reason = reason_of i budget; support = support_of h' g.n })) c' h' z'.floats z'.numbers z'.labels)
+      (whole (Ok (record { rho = v.rho; r = ratio_of g.nu v; obj = objective_over (stands_in r) g.n st.floats; iterations = i; exit_reason = reason_of i budget; support = support_of h g.n })) c h z.floats z.numbers z.labels)
+      (whole (Ok (record { rho = v'.rho; r = ratio_of g.nu v'; obj = objective_over (stands_in r) g.n st.floats; iterations = i; exit_reason = reason_of i budget; support = support_of h' g.n })) c' h' z'.floats z'.numbers z'.labels)
   glue st i v v' c c' h h' z z' q1 q2 q3 q4 = rw (q1, q2, q3, q4)
 
   silent_whole : Full → Whole

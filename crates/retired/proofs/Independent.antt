@@ -19,15 +19,13 @@ use Rattle.kernel.specs.declared.Kind.{Kind}
 use Rattle.answer.specs.Answer.{support_of, ratio_of, reason_of}
 use Rattle.answer.specs.Lent.{Lent, Whole, whole, cleared}
 use Rattle.answer.specs.declared.Answer.{Answer}
-use Rattle.answer.specs.declared.Outcome.TheVariants.{Accepted}
 use Rattle.classification.specs.Entries.{given_by, scratch_of, sizes_of}
 use Rattle.classification.proofs.Laws.{Usable}
 use Rattle.judge.specs.Judge.{retired_judged}
 use Rattle.judge.specs.Sizes.{Room}
-use Rattle.judge.specs.declared.Judged.TheVariants.{Fine}
 use Rattle.judge.proofs.Lengths.{room_of}
 use Rattle.kernel.specs.declared.Kind.TheVariants.{TwoClass}
-use Rattle.classification.proofs.Accepts.{entered_in, decided_in}
+use Rattle.classification.proofs.Accepts.{decided_in}
 use Rattle.readings.specs.Order.{gathered, scattered, weight_in}
 use Rattle.standing.specs.End.{level_over, objective_over}
 use Rattle.standing.specs.Run.{trained_over}
@@ -45,6 +43,7 @@ use Rattle.tuning.specs.declared.Tuning.{Tuning}
 use Rattle.retired.proofs.Laws.{usable_retired}
 use Rattle.retired.specs.Differ.{Input, retired_for, DifferRetired}
 use Rattle.retired.specs.Entry.{stands_in, kept_to, kept, answered_over, fitted_over, retired_tuned_sized, retired_tuned}
+use Rattle.std.specs.Prelude.{Ok}
 
 -- ---- what is kept of a list
 
@@ -148,8 +147,8 @@ module _ (stands : ℕ → Bool) (g : Given) (budget : ℕ) (d : Lent) where
   answered_by : (i i' : ℕ) (v v' : Level) (o o' : Float) (c c' h h' : List Float) → i ≡ i' → v ≡ v' → o ≡ o' → c ≡ c' → h ≡ h'
       → let z = cleared g.n (scratch_of d) in
       ◌≡◌ {A = Whole}
-      (whole (Accepted (record { rho = v.rho; r = ratio_of g.nu v; obj = o; iterations = i; exit_reason = reason_of i budget; support = support_of h g.n })) c h z.floats z.numbers z.labels)
-      (whole (Accepted (record { rho = v'.rho; r = ratio_of g.nu v'; obj = o'; iterations = i'; exit_reason = reason_of i' budget; support = support_of h' g.n })) c' h' z.floats z.numbers z.labels)
+      (whole (Ok (record { rho = v.rho; r = ratio_of g.nu v; obj = o; iterations = i; exit_reason = reason_of i budget; support = support_of h g.n })) c h z.floats z.numbers z.labels)
+      (whole (Ok (record { rho = v'.rho; r = ratio_of g.nu v'; obj = o'; iterations = i'; exit_reason = reason_of i' budget; support = support_of h' g.n })) c' h' z.floats z.numbers z.labels)
   answered_by i i' v v' o o' c c' h h' q1 q2 q3 q4 q5 = rw (q1, q2, q3, q4, q5)
 
   pub answered_same : (w v : Full) → w.run ≡ v.run → w.state.numbers ≡ v.state.numbers → ((k : ℕ) → k < g.n → get_or w.state.numbers k 0 < g.n)
@@ -201,7 +200,7 @@ module _ (tune : Tuning) (n : ℕ) (r : List ℕ) (x y : Input) (D : DifferRetir
 -- the outcome o is that of the fit over what stands, of an input that was judged fine, over lists that suffice
 pub record Taken (tune : Tuning) (n : ℕ) (r : List ℕ) (nurule : Bool) (eps : Float) (shrinking : Bool) (budget : ℕ) (d : Lent) (x : Input) (o : Whole) : Type 0 where
   pub room : Room n (length x.matrix) (length d.crate) (length d.home) (length d.floats) (length d.numbers) (length d.bytes)
-  pub judged : retired_judged tune.floor n x.matrix x.labels x.ceilings x.weights x.terms r eps shrinking budget ≡ Fine
+  pub judged : retired_judged tune.floor n x.matrix x.labels x.ceilings x.weights x.terms r eps shrinking budget ≡ Ok tt
   pub same : o ≡ fitted_over (stands_in r) (given_by tune n TwoClass eps false nurule) x.matrix x.labels x.ceilings (kept r x.weights n) (kept r x.terms n) budget d
 
 module _ {tune : Tuning} {n : ℕ} {r : List ℕ} {nurule : Bool} {eps : Float} {shrinking : Bool} {budget : ℕ} {d : Lent} where
@@ -219,26 +218,26 @@ module _ (tune : Tuning) (n : ℕ) (r : List ℕ) (nurule : Bool) (eps : Float) 
   abbrev sized_for : Input → Whole
   sized_for x = retired_tuned_sized tune n x.matrix x.labels x.ceilings x.weights x.terms r nurule eps shrinking budget d
 
-  out_of : (z : Answer) (w v : Whole) → w ≡ v → w.out ≡ Accepted z → v.out ≡ Accepted z
+  out_of : (z : Answer) (w v : Whole) → w ≡ v → w.out ≡ Ok z → v.out ≡ Ok z
   out_of z w v q h = rw q at h
 
   -- after the sizes
   pub sized_taken : (x : Input) → Room n (length x.matrix) (length d.crate) (length d.home) (length d.floats) (length d.numbers) (length d.bytes)
-      → (z : Answer) → (sized_for x).out ≡ Accepted z → Taken tune n r nurule eps shrinking budget d x (sized_for x)
+      → (z : Answer) → (sized_for x).out ≡ Ok z → Taken tune n r nurule eps shrinking budget d x (sized_for x)
   unfolding retired_tuned_sized
   sized_taken x room z e = let v = decided_in _ d z (retired_judged tune.floor n x.matrix x.labels x.ceilings x.weights x.terms r eps shrinking budget) e in record { room = room; judged = v.0; same = v.1 }
 
   -- where the entry accepts
-  pub retired_taken : (x : Input) (z : Answer) → (retired_for tune x n r nurule eps shrinking budget d).out ≡ Accepted z → Taken tune n r nurule eps shrinking budget d x (retired_for tune x n r nurule eps shrinking budget d)
+  pub retired_taken : (x : Input) (z : Answer) → (retired_for tune x n r nurule eps shrinking budget d).out ≡ Ok z → Taken tune n r nurule eps shrinking budget d x (retired_for tune x n r nurule eps shrinking budget d)
   unfolding retired_tuned
   retired_taken x z e =
       let inputs = eqb (length x.labels) n && eqb (length x.ceilings) n && eqb (length x.weights) n && eqb (length x.terms) n && eqb (length r) n in
-      let q = entered_in (sized_for x) d z (sizes_of n inputs x.matrix d) e in
+      let q = decided_in (sized_for x) d z (sizes_of n inputs x.matrix d) e in
       let v = sized_taken x (room_of n inputs _ _ _ _ _ _ q.0) z (out_of z _ _ q.1 e) in
       record { room = v.room; judged = v.judged; same = q.1 ∙ v.same }
 
   -- two trainings that differ in what is retired only: where both are accepted, one answer, and the same lists
   pub retired_independent : (x y : Input) → DifferRetired n r x y → (z z' : Answer)
-      → (retired_for tune x n r nurule eps shrinking budget d).out ≡ Accepted z → (retired_for tune y n r nurule eps shrinking budget d).out ≡ Accepted z'
+      → (retired_for tune x n r nurule eps shrinking budget d).out ≡ Ok z → (retired_for tune y n r nurule eps shrinking budget d).out ≡ Ok z'
       → retired_for tune x n r nurule eps shrinking budget d ≡ retired_for tune y n r nurule eps shrinking budget d
   retired_independent x y D z z' e e' = taken_independent D (retired_taken x z e) (retired_taken y z' e')

@@ -4,25 +4,21 @@ use mathlib.Core.Bool.{Bool, true, false, ◌&&◌, cond}
 use mathlib.Core.List.{List}
 use mathlib.Core.Path.{◌≡◌, refl, sym, ap, ◌∙◌}
 use native.Mathlib.Omega.{arith}
-use borrow.Author.Tests.{eqb-true, eq-eqb}
+use borrow.Author.Tests.{eq-eqb}
 use lib.Dec.{eqb}
 use lib.Ieee.{Float, nan, binary64, div}
 use lib.ListN.{length, get_or}
 use Rattle.alpha.specs.Weight.{two}
 use Rattle.alpha.specs.Weight as Weight
 use Rattle.answer.specs.Answer.{obj_of}
-use Rattle.answer.specs.Lent.{Lent, lent, Whole, untouched}
+use Rattle.answer.specs.Lent.{Lent, lent, Whole}
 use Rattle.answer.specs.Solved.{stuck, settled_by, settled_of, closed_with, solved, read}
 use Rattle.answer.specs.declared.Finish.TheVariants.{Plain}
-use Rattle.answer.specs.declared.Outcome.{Outcome}
-use Rattle.answer.specs.declared.Outcome.TheVariants.{Refused}
-use Rattle.classification.specs.Entries.{given_by, scratch_of, fitted, decided, entered, sizes_of, general_tuned_sized, general_tuned}
+use Rattle.classification.specs.Entries.{given_by, scratch_of, fitted, decided, sizes_of, general_tuned_sized, general_tuned}
 use Rattle.classification.proofs.Laws.{usable_general}
 use Rattle.fits.specs.Load.{loaded_floats, loaded}
 use Rattle.judge.specs.Judge.{and_then, bytes_good, general_judged, floor_judged, retired_judged}
 use Rattle.judge.specs.Sizes.{Room}
-use Rattle.judge.specs.declared.Judged.{Judged}
-use Rattle.judge.specs.declared.Judged.TheVariants.{Fine, Bad}
 use Rattle.judge.proofs.Accepted.{floor_fine, within_bytes}
 use Rattle.judge.proofs.Lengths.{room_of}
 use Rattle.kernel.specs.Matrix.{Matrix}
@@ -39,6 +35,9 @@ use Rattle.retired.specs.Differ.{Input}
 use Rattle.retired.specs.Entry.{stands_in, kept, fitted_over, retired_tuned_sized, retired_tuned}
 use Rattle.retired.proofs.Coded.{silenced_place, silent_is}
 use Rattle.retired.proofs.Independent.{kept_place}
+use Rattle.std.specs.Prelude.{⊤, Result, Ok, Err}
+use Rattle.answer.specs.declared.Answer.{Answer}
+use Rattle.judge.specs.declared.Refusal.{Refusal}
 
 -- lists that agree in their first places load the same
 loaded_same : (n : ℕ) (c a a' p p' f : List Float) (k : ℕ) → ((j : ℕ) → j < k → get_or a j nan ≡ get_or a' j nan) → ((j : ℕ) → j < k → get_or p j nan ≡ get_or p' j nan)
@@ -70,7 +69,7 @@ module _ (g : Given) (r : List ℕ) (all : (k : ℕ) → k < g.n → stands_in r
   solved_all m l b budget d =
       let w = trained g m b budget (state d.floats d.numbers d.bytes) in
       let x = settled_of g Plain l budget w d.crate d.home in
-      ap (λ (o : Outcome). closed_with g.n w.state (read o x.crate x.home)) (settled_all (stuck w.run.status) l budget w d.crate d.home)
+      ap (λ (o : Result Answer Refusal). closed_with g.n w.state (read o x.crate x.home)) (settled_all (stuck w.run.status) l budget w d.crate d.home)
 
 module _ (tune : Tuning) (n : ℕ) (r : List ℕ) (all : (k : ℕ) → k < n → stands_in r k ≡ true) (x : Input) (nurule : Bool) (eps : Float) (budget : ℕ) (d : Lent) (most : n ≤ 512)
     (lf : 7 * n ≤ length d.floats) (lu : 2 * n ≤ length d.numbers) (ly : n ≤ length d.bytes) (lc : n ≤ length d.crate) (lh : n ≤ length d.home) (M : Matrix n x.matrix) where
@@ -108,22 +107,14 @@ module _ (tune : Tuning) (n : ℕ) (r : List ℕ) (long : length r ≡ n) (all :
     unfolding retired_judged
     judged_nobody = rw bytes_all (after_none _ ∙ after_none _)
       where
-        after_none : (j : Judged) → and_then j Fine ≡ j
-        after_none Fine = unfold and_then in refl
-        after_none (Bad q i) = unfold and_then in refl
+        after_none : (j : Result ⊤ Refusal) → and_then j (Ok tt) ≡ j
+        after_none (Ok x) = unfold and_then in refl
+        after_none (Err refusal) = unfold and_then in refl
 
-    decided_nobody : (j : Judged) (v w : Whole) → (j ≡ Fine → v ≡ w) → decided j v d ≡ decided j w d
+    decided_nobody : (j : Result ⊤ Refusal) (v w : Whole) → (j ≡ Ok tt → v ≡ w) → decided j v d ≡ decided j w d
     unfolding decided
-    decided_nobody Fine v w h = h refl
-    decided_nobody (Bad q i) v w h = refl
-
-    entered_nobody : (number : ℕ) (v w : Whole) → (number ≡ 0 → v ≡ w) → entered number v d ≡ entered number w d
-    unfolding entered
-    entered_nobody number v w h = go (eqb number 0) refl
-      where
-        go : (b : Bool) → eqb number 0 ≡ b → cond b v (untouched (Refused number 0) d) ≡ cond b w (untouched (Refused number 0) d)
-        go true z = h (eqb-true number 0 z)
-        go false z = refl
+    decided_nobody (Ok x) v w h = h refl
+    decided_nobody (Err refusal) v w h = refl
 
     pub sized_nobody : Room n (length m) (length d.crate) (length d.home) (length d.floats) (length d.numbers) (length d.bytes)
         → retired_tuned_sized tune n m l c a p r nurule eps false budget d ≡ general_tuned_sized tune n m l c a p nurule eps false budget d
@@ -137,7 +128,7 @@ module _ (tune : Tuning) (n : ℕ) (r : List ℕ) (long : length r ≡ n) (all :
     nobody_retired =
         let inputs = eqb (length l) n && eqb (length c) n && eqb (length a) n && eqb (length p) n in
         let same : (inputs && eqb (length r) n) ≡ inputs = rw (eq-eqb (length r) n long) (and_true inputs) in
-        rw same (entered_nobody (sizes_of n inputs m d) _ _ (λ z. sized_nobody (room_of n inputs _ _ _ _ _ _ z)))
+        rw same (decided_nobody (sizes_of n inputs m d) _ _ (λ z. sized_nobody (room_of n inputs _ _ _ _ _ _ z)))
       where
         and_true : (b : Bool) → (b && true) ≡ b
         and_true true = refl

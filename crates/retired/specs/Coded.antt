@@ -1,11 +1,9 @@
 -- What the code does, in the rule's own definitions: the linear term of what is retired is NaN, and nothing but the obj sum asks who stands.
 -- A reader needn't believe it: proofs/Coded.antt shows that it is what Entry.antt says.
-use Rattle.std.specs.Prelude.{ℕ, List, Float}
+use Rattle.std.specs.Prelude.{ℕ, List, Float, Result, Ok, Err}
 use Rattle.answer.specs.Lent.{Lent, lent, Whole}
 use Rattle.answer.specs.Solved.{read, settled_of, closed_with}
 use Rattle.answer.specs.declared.Finish.TheVariants.{Plain}
-use Rattle.answer.specs.declared.Outcome.{Outcome}
-use Rattle.answer.specs.declared.Outcome.TheVariants.{Accepted, Refused}
 use Rattle.classification.specs.Entries.{scratch_of}
 use Rattle.fits.specs.Load.{loaded}
 use Rattle.standing.specs.End.{objective_over}
@@ -14,11 +12,13 @@ use Rattle.solver.specs.declared.Given.{Given}
 use Rattle.state.specs.Lists.{state}
 use Rattle.retired.specs.Entry.{stands_in, kept}
 use Rattle.retired.specs.Silenced.{silenced}
+use Rattle.answer.specs.declared.Answer.{Answer}
+use Rattle.judge.specs.declared.Refusal.{Refusal}
 
-abbrev pub with_obj : Outcome → Float → Outcome
-with_obj (Accepted a) x =
-    Accepted (record { rho = a.rho; r = a.r; obj = x; iterations = a.iterations; exit_reason = a.exit_reason; support = a.support })
-with_obj (Refused number index) x = Refused number index
+abbrev pub with_obj : Result Answer Refusal → Float → Result Answer Refusal
+with_obj (Ok a) x =
+    Ok (record { rho = a.rho; r = a.r; obj = x; iterations = a.iterations; exit_reason = a.exit_reason; support = a.support })
+with_obj (Err refusal) x = Err refusal
 
 -- d's scratch is loaded
 unfoldable pub solved_silent : Given → List ℕ → List ℕ → List Float → List ℕ → ℕ → Lent → Whole

@@ -1,12 +1,11 @@
 -- The entry with retired samples (the rule, section 'Retired samples'): refusals, else the run over what stands, and its answer.
-use Rattle.std.specs.Prelude.{ℕ, zero, suc, Bool, false, ◌&&◌, cond, List, eqb, Float, length, get_or, set}
+use Rattle.std.specs.Prelude.{ℕ, zero, suc, Bool, false, ◌&&◌, cond, List, eqb, Float, length, get_or, set, Ok}
 use Rattle.std.specs.Float.{nan}
 use Rattle.alpha.specs.Weight as Weight
 use Rattle.answer.specs.Answer.{support_of, ratio_of, reason_of}
 use Rattle.answer.specs.Lent.{Lent, Whole, whole, cleared}
 use Rattle.answer.specs.declared.Answer.{Answer}
-use Rattle.answer.specs.declared.Outcome.TheVariants.{Accepted}
-use Rattle.classification.specs.Entries.{given_by, scratch_of, decided, entered, sizes_of}
+use Rattle.classification.specs.Entries.{given_by, scratch_of, decided, sizes_of}
 use Rattle.fits.specs.Load.{loaded}
 use Rattle.fits.specs.Starts.{nothing}
 use Rattle.judge.specs.Judge.{retired_judged}
@@ -53,7 +52,7 @@ answered_over stands g budget w d =
     let weights = weight_in g.n w.state.floats in
     let home = home_reading g.n w.state.numbers weights d.home in
     let v = level_over stands g.n w.state.floats w.state.labels g.nu (repaired g.mode) in
-    whole (Accepted (answer_over stands g budget w v home)) (crate_reading g.n w.state.numbers weights d.crate) home z.floats z.numbers z.labels
+    whole (Ok (answer_over stands g budget w v home)) (crate_reading g.n w.state.numbers weights d.crate) home z.floats z.numbers z.labels
 
 -- labels l, ceilings c, start weights a, linear terms p: loaded, then trained over what stands
 unfoldable pub fitted_over : (ℕ → Bool) → Given → List ℕ → List ℕ → List Float → List Float → List Float → ℕ → Lent → Whole
@@ -67,7 +66,7 @@ retired_tuned_sized t n m l c a p r nurule eps shrinking budget d =
 unfoldable pub retired_tuned : Tuning → ℕ → List ℕ → List ℕ → List Float → List Float → List Float → List ℕ → Bool → Float → Bool → ℕ → Lent → Whole
 retired_tuned t n m l c a p r nurule eps shrinking budget d =
     let inputs = eqb (length l) n && eqb (length c) n && eqb (length a) n && eqb (length p) n && eqb (length r) n in
-    entered (sizes_of n inputs m d) (retired_tuned_sized t n m l c a p r nurule eps shrinking budget d) d
+    decided (sizes_of n inputs m d) (retired_tuned_sized t n m l c a p r nurule eps shrinking budget d) d
 
 abbrev pub retired_of : ℕ → List ℕ → List ℕ → List Float → List Float → List Float → List ℕ → Bool → Float → Bool → ℕ → Lent → Whole
 retired_of = retired_tuned plain_tuning

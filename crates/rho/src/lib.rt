@@ -3,12 +3,12 @@
 
 ghost use Rattle.std.specs.Prelude.{◌≡◌, ◌+◌, ◌*◌, ◌≤◌, ◌<◌, length};
 ghost use Rattle.rho.specs.Rho as Rho;
-ghost use Rattle.rho.specs.Rho.{signed, share_with_c, ub_moved, share_with_nu, joined_nu, share_c, share_nu, middle, rho_c, rho_nu, level_by};
+ghost use Rattle.rho.specs.Rho.{no_share, signed, share_with_c, ub_moved, share_with_nu, joined_nu, share_c, share_nu, middle, rho_c, rho_nu, level_by};
 
 use alpha::Alpha;
 
 // What the positions so far say: how many are free and the sum of their gradients, and the two bounds.
-#[derive(Clone, Copy)]
+#[derive(Clone, Copy, Debug, PartialEq)]
 pub struct Share {
     pub free: usize,
     pub sum: f64,
@@ -16,10 +16,24 @@ pub struct Share {
     pub lb: f64,
 }
 
-#[derive(Clone, Copy)]
+#[derive(Clone, Copy, Debug, PartialEq)]
 pub struct Level {
     pub rho: f64,
     pub r: f64,
+}
+
+impl Share {
+    // Before the first position.
+    pub fn none() -> Self
+        ensures { result ≡ no_share }
+    {
+        Self {
+            free: 0,
+            sum: 0.0,
+            ub: f64::INFINITY,
+            lb: f64::NEG_INFINITY,
+        }
+    }
 }
 
 pub fn sign(positive: bool, g: f64) -> f64
@@ -35,8 +49,7 @@ fn freed(s: Share, g: f64) -> Share
     Share {
         free: s.free + 1,
         sum: s.sum + g,
-        ub: s.ub,
-        lb: s.lb,
+        ..s
     }
 }
 
@@ -44,10 +57,8 @@ fn lb_raised(s: Share, g: f64) -> Share
     ensures { result ≡ Rho.lb_raised s g }
 {
     Share {
-        free: s.free,
-        sum: s.sum,
-        ub: s.ub,
         lb: floats::max(s.lb, g),
+        ..s
     }
 }
 
@@ -55,10 +66,8 @@ fn ub_lowered(s: Share, g: f64) -> Share
     ensures { result ≡ Rho.ub_lowered s g }
 {
     Share {
-        free: s.free,
-        sum: s.sum,
         ub: floats::min(s.ub, g),
-        lb: s.lb,
+        ..s
     }
 }
 
@@ -66,14 +75,13 @@ fn ub_raised(s: Share, g: f64) -> Share
     ensures { result ≡ Rho.ub_raised s g }
 {
     Share {
-        free: s.free,
-        sum: s.sum,
         ub: floats::max(s.ub, g),
-        lb: s.lb,
+        ..s
     }
 }
 
 // C rule, one position.
+#[tactic(auto, unfolding(crate::specs::Rho::share_with_c))]
 pub fn weigh(s: Share, positive: bool, w: Alpha, g: f64) -> Share
     requires { s.free < 512 }
     ensures { (result ≡ share_with_c positive w g s) × (result.free ≤ s.free + 1) }
@@ -96,6 +104,7 @@ pub fn weigh(s: Share, positive: bool, w: Alpha, g: f64) -> Share
 }
 
 // Raised, though it starts at infinity; repaired, lowered.
+#[tactic(auto, unfolding(crate::specs::Rho::ub_moved))]
 fn ub_moved(repaired: bool, s: Share, g: f64) -> Share
     ensures { result ≡ ub_moved repaired s g }
 {
@@ -107,6 +116,7 @@ fn ub_moved(repaired: bool, s: Share, g: f64) -> Share
 }
 
 // nu rule, one position of the label.
+#[tactic(auto, unfolding(crate::specs::Rho::share_with_nu, crate::specs::Rho::ub_moved))]
 fn weigh_nu(repaired: bool, s: Share, w: Alpha, g: f64) -> Share
     requires { s.free < 512 }
     ensures { (result ≡ share_with_nu repaired w g s) × (result.free ≤ s.free + 1) }
@@ -120,16 +130,13 @@ fn weigh_nu(repaired: bool, s: Share, w: Alpha, g: f64) -> Share
     }
 }
 
+#[tactic(auto, unfolding(crate::specs::Rho::share_c))]
 fn share_c(f: &[f64], y: &[u8], n: usize, active: usize) -> Share
     requires { (active ≤ n) × (n ≤ 512) × (7 * n ≤ length f.now) × (n ≤ length y.now) }
     ensures { (result ≡ share_c n f.now y.now active) × (result.free ≤ active) }
 {
-    let mut s = Share {
-        free: 0,
-        sum: 0.0,
-        ub: 1.0 / 0.0,
-        lb: -1.0 / 0.0,
-    };
+    let mut s = Share::none();
+    // By k: four fields of two lists are read at it.
     for k in 0..active {
         let positive = y[k] == 1;
         s = weigh(s, positive, state::alpha_at(f, n, k), sign(positive, f[k]));
@@ -138,6 +145,7 @@ fn share_c(f: &[f64], y: &[u8], n: usize, active: usize) -> Share
 }
 
 // A position counts only where it has the label.
+#[tactic(auto, unfolding(crate::specs::Rho::joined_nu))]
 pub fn join(repaired: bool, s: Share, counts: bool, w: Alpha, g: f64) -> Share
     requires { s.free < 512 }
     ensures { (result ≡ joined_nu repaired counts w g s) × (result.free ≤ s.free + 1) }
@@ -149,16 +157,14 @@ pub fn join(repaired: bool, s: Share, counts: bool, w: Alpha, g: f64) -> Share
     }
 }
 
+// A loop of its own beside share_c, as the definitions have it: it passes positions over, and takes the gradient without its sign.
+#[tactic(auto, unfolding(crate::specs::Rho::share_nu))]
 fn share_nu(f: &[f64], y: &[u8], n: usize, active: usize, label: u8, repaired: bool) -> Share
     requires { (active ≤ n) × (n ≤ 512) × (7 * n ≤ length f.now) × (n ≤ length y.now) }
     ensures { (result ≡ share_nu repaired n f.now y.now label active) × (result.free ≤ active) }
 {
-    let mut s = Share {
-        free: 0,
-        sum: 0.0,
-        ub: 1.0 / 0.0,
-        lb: -1.0 / 0.0,
-    };
+    let mut s = Share::none();
+    // By k, as above.
     for k in 0..active {
         s = join(repaired, s, y[k] == label, state::alpha_at(f, n, k), f[k]);
     }
@@ -166,6 +172,7 @@ fn share_nu(f: &[f64], y: &[u8], n: usize, active: usize, label: u8, repaired: b
 }
 
 // The mean of the free ones, or the middle of the bounds.
+#[tactic(auto, unfolding(crate::specs::Rho::middle))]
 pub fn settle(s: Share) -> f64
     requires { s.free ≤ 512 }
     ensures { result ≡ middle s }
@@ -198,6 +205,7 @@ pub fn calculate_rho_nu(f: &[f64], y: &[u8], n: usize, active: usize, repaired: 
 }
 
 // By the rule that holds; r is +0 without the nu rule.
+#[tactic(auto, unfolding(crate::specs::Rho::level_by))]
 pub fn level_by(f: &[f64], y: &[u8], n: usize, active: usize, nu: bool, repaired: bool) -> Level
     requires { (active ≤ n) × (n ≤ 512) × (7 * n ≤ length f.now) × (n ≤ length y.now) }
     ensures { result ≡ level_by nu repaired n f.now y.now active }

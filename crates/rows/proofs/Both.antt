@@ -34,15 +34,14 @@ module _ (p : Problem) (s : State) (x z : Float) (i : ℕ) where
       set g a (add binary64 (get_or g a nan) (mul binary64 x (row p s i b))) ≡ set g k (add binary64 (get_or g k nan) (mul binary64 x (row p s i k)))
   placed a b k d e = rw (d, e)
 
-  pub both_more : (k : ℕ) → k < p.n → let f = both k in let r = row p s i k in
-      set (set f k (add binary64 (get_or f k nan) (mul binary64 x r))) (p.n + k) (add binary64 (get_or f (p.n + k) nan) (mul binary64 z r))
-      ≡ both (suc k)
+  pub both_more : (k : ℕ) → k < p.n → let r = row p s i k in let f = set (both k) k (add binary64 (get_or (both k) k nan) (mul binary64 x r)) in
+      set f (p.n + k) (add binary64 (get_or f (p.n + k) nan) (mul binary64 z r)) ≡ both (suc k)
   unfolding row_added
   both_more k l =
-      subst
+      rw (get_or-set_other (both k) k (p.n + k) _ nan (λ e. omega arith)) (subst
       (λ (g : List Float). set (set (both k) k (add binary64 (get_or (both k) k nan) (mul binary64 x (row p s i k)))) (p.n + k) (add binary64 (get_or (both k) (p.n + k) nan) (mul binary64 z (row p s i k)))
       ≡ row_added p (state g s.numbers s.labels) p.n z i 0 (suc k))
       (sym (placed (0 + (0 + k)) (0 + k) k (omega arith) (omega arith)))
       (let t = state (row_added p s 0 x i 0 k) s.numbers s.labels in
       let v = add binary64 (get_or (row_added p s 0 x i 0 k) k nan) (mul binary64 x (row p s i k)) in
-      rw (zero-add, row_added_set p t p.n z i 0 k v k (λ h g e. omega arith), row_added_other p t p.n z i 0 k k (λ h g e. omega arith), get_or-set_other (row_added p t p.n z i 0 k) k (p.n + k) v nan (λ e. omega arith)))
+      rw (zero-add, row_added_set p t p.n z i 0 k v k (λ h g e. omega arith), row_added_other p t p.n z i 0 k k (λ h g e. omega arith), get_or-set_other (row_added p t p.n z i 0 k) k (p.n + k) v nan (λ e. omega arith))))

@@ -7,27 +7,24 @@ ghost use Rattle.hosted.specs.Hosted.{floats_of, room, Handed, handed, delivered
 ghost use Rattle.judge.specs.Sizes.{Room};
 ghost use Rattle.retired.specs.Entry.{retired_tuned_sized};
 
-use tuning::Tuning;
+use classification::Terms;
+use tuning::{Settings, Tuning};
 
 fn general_roomed(
     n: usize,
     m: &[u8],
     l: &[u8],
-    c: &[f64],
-    a: &[f64],
-    p: &[f64],
+    terms: Terms<'_>,
     nurule: bool,
-    eps: f64,
-    shrinking: bool,
-    budget: u64,
+    settings: Settings,
     t: Tuning,
     cr: &mut [u8],
     h: &mut [u8],
     answer: &mut [u8],
 ) -> u64
-    requires { (Room n (length m.now) 512 512 3584 1024 512) × (n ≤ length l.now) × (n ≤ length c.now) × (n ≤ length a.now) × (n ≤ length p.now) × (8 * n ≤ length cr.old) × (8 * n ≤ length h.old) × (72 ≤ length answer.old) }
+    requires { (Room n (length m.now) 512 512 3584 1024 512) × (n ≤ length l.now) × (n ≤ length terms.ceilings.now) × (n ≤ length terms.alphas.now) × (n ≤ length terms.linear.now) × (8 * n ≤ length cr.old) × (8 * n ≤ length h.old) × (72 ≤ length answer.old) }
     ensures { ◌≡◌ {A = Handed} (handed result cr.new h.new answer.new)
-        (delivered n (general_tuned_sized t n m.now l.now c.now a.now p.now nurule eps shrinking budget room) cr.old h.old answer.old) }
+        (delivered n (general_tuned_sized t n m.now l.now terms.entry.ceilings.now terms.entry.alphas.now terms.entry.linear.now nurule settings.eps settings.shrinking settings.budget room) cr.old h.old answer.old) }
 {
     let mut c2 = hosted::places();
     let mut h2 = hosted::places();
@@ -35,8 +32,7 @@ fn general_roomed(
     let mut u = hosted::numbers();
     let mut y = hosted::bytes();
     let o = general::sized(
-        n, m, l, c, a, p, nurule, eps, shrinking, budget, t, &mut c2, &mut h2, &mut f, &mut u,
-        &mut y,
+        n, m, l, terms, nurule, settings, t, &mut c2, &mut h2, &mut f, &mut u, &mut y,
     );
     hosted::deliver(cr, h, answer, &c2, &h2, n, o)
 }
@@ -50,9 +46,7 @@ pub fn general(
     a: &[u8],
     p: &[u8],
     nurule: bool,
-    eps: f64,
-    shrinking: bool,
-    budget: u64,
+    settings: Settings,
     t: Tuning,
     cr: &mut [u8],
     h: &mut [u8],
@@ -60,7 +54,7 @@ pub fn general(
 ) -> u64
     requires { (Room n (length m.now) 512 512 3584 1024 512) × (n ≤ length l.now) × (8 * n ≤ length c.now) × (8 * n ≤ length a.now) × (8 * n ≤ length p.now) × (8 * n ≤ length cr.old) × (8 * n ≤ length h.old) × (72 ≤ length answer.old) }
     ensures { ◌≡◌ {A = Handed} (handed result cr.new h.new answer.new)
-        (delivered n (general_tuned_sized t n m.now l.now (floats_of c.now n) (floats_of a.now n) (floats_of p.now n) nurule eps shrinking budget room) cr.old h.old answer.old) }
+        (delivered n (general_tuned_sized t n m.now l.now (floats_of c.now n) (floats_of a.now n) (floats_of p.now n) nurule settings.eps settings.shrinking settings.budget room) cr.old h.old answer.old) }
 {
     let mut dc = hosted::places();
     let mut da = hosted::places();
@@ -68,31 +62,30 @@ pub fn general(
     hosted::decode(&mut dc, c, n);
     hosted::decode(&mut da, a, n);
     hosted::decode(&mut dp, p, n);
-    general_roomed(
-        n, m, l, &dc, &da, &dp, nurule, eps, shrinking, budget, t, cr, h, answer,
-    )
+    let terms = Terms {
+        ceilings: &dc,
+        alphas: &da,
+        linear: &dp,
+    };
+    general_roomed(n, m, l, terms, nurule, settings, t, cr, h, answer)
 }
 
 fn retired_roomed(
     n: usize,
     m: &[u8],
     l: &[u8],
-    c: &[f64],
-    a: &[f64],
-    p: &[f64],
+    terms: Terms<'_>,
     r: &[u8],
     nurule: bool,
-    eps: f64,
-    shrinking: bool,
-    budget: u64,
+    settings: Settings,
     t: Tuning,
     cr: &mut [u8],
     h: &mut [u8],
     answer: &mut [u8],
 ) -> u64
-    requires { (Room n (length m.now) 512 512 3584 1024 512) × (n ≤ length l.now) × (n ≤ length c.now) × (n ≤ length a.now) × (n ≤ length p.now) × (n ≤ length r.now) × (8 * n ≤ length cr.old) × (8 * n ≤ length h.old) × (72 ≤ length answer.old) }
+    requires { (Room n (length m.now) 512 512 3584 1024 512) × (n ≤ length l.now) × (n ≤ length terms.ceilings.now) × (n ≤ length terms.alphas.now) × (n ≤ length terms.linear.now) × (n ≤ length r.now) × (8 * n ≤ length cr.old) × (8 * n ≤ length h.old) × (72 ≤ length answer.old) }
     ensures { ◌≡◌ {A = Handed} (handed result cr.new h.new answer.new)
-        (delivered n (retired_tuned_sized t n m.now l.now c.now a.now p.now r.now nurule eps shrinking budget room) cr.old h.old answer.old) }
+        (delivered n (retired_tuned_sized t n m.now l.now terms.entry.ceilings.now terms.entry.alphas.now terms.entry.linear.now r.now nurule settings.eps settings.shrinking settings.budget room) cr.old h.old answer.old) }
 {
     let mut c2 = hosted::places();
     let mut h2 = hosted::places();
@@ -100,8 +93,7 @@ fn retired_roomed(
     let mut u = hosted::numbers();
     let mut y = hosted::bytes();
     let o = fit_retired::sized(
-        n, m, l, c, a, p, r, nurule, eps, shrinking, budget, t, &mut c2, &mut h2, &mut f, &mut u,
-        &mut y,
+        n, m, l, terms, r, nurule, settings, t, &mut c2, &mut h2, &mut f, &mut u, &mut y,
     );
     hosted::deliver(cr, h, answer, &c2, &h2, n, o)
 }
@@ -116,9 +108,7 @@ pub fn retired(
     p: &[u8],
     r: &[u8],
     nurule: bool,
-    eps: f64,
-    shrinking: bool,
-    budget: u64,
+    settings: Settings,
     t: Tuning,
     cr: &mut [u8],
     h: &mut [u8],
@@ -126,17 +116,20 @@ pub fn retired(
 ) -> u64
     requires { (Room n (length m.now) 512 512 3584 1024 512) × (n ≤ length l.now) × (8 * n ≤ length c.now) × (8 * n ≤ length a.now) × (8 * n ≤ length p.now) × (n ≤ length r.now) × (8 * n ≤ length cr.old) × (8 * n ≤ length h.old) × (72 ≤ length answer.old) }
     ensures { ◌≡◌ {A = Handed} (handed result cr.new h.new answer.new)
-        (delivered n (retired_tuned_sized t n m.now l.now (floats_of c.now n) (floats_of a.now n) (floats_of p.now n) r.now nurule eps shrinking budget room) cr.old h.old answer.old) }
+        (delivered n (retired_tuned_sized t n m.now l.now (floats_of c.now n) (floats_of a.now n) (floats_of p.now n) r.now nurule settings.eps settings.shrinking settings.budget room) cr.old h.old answer.old) }
 {
     let mut ceilings = hosted::places();
     let mut alphas = hosted::places();
-    let mut terms = hosted::places();
+    let mut linear = hosted::places();
     hosted::decode(&mut ceilings, c, n);
     hosted::decode(&mut alphas, a, n);
-    hosted::decode(&mut terms, p, n);
-    retired_roomed(
-        n, m, l, &ceilings, &alphas, &terms, r, nurule, eps, shrinking, budget, t, cr, h, answer,
-    )
+    hosted::decode(&mut linear, p, n);
+    let terms = Terms {
+        ceilings: &ceilings,
+        alphas: &alphas,
+        linear: &linear,
+    };
+    retired_roomed(n, m, l, terms, r, nurule, settings, t, cr, h, answer)
 }
 
 // With shrinking off no sample moves, and the training needs no order table.
@@ -146,9 +139,7 @@ pub fn c(
     l: &[u8],
     cpos: f64,
     cneg: f64,
-    eps: f64,
-    shrinking: bool,
-    budget: u64,
+    settings: Settings,
     t: Tuning,
     cr: &mut [u8],
     h: &mut [u8],
@@ -156,12 +147,12 @@ pub fn c(
 ) -> u64
     requires { (Room n (length m.now) 512 512 3584 1024 512) × (n ≤ length l.now) × (8 * n ≤ length cr.old) × (8 * n ≤ length h.old) × (72 ≤ length answer.old) }
     ensures { ◌≡◌ {A = Handed} (handed result cr.new h.new answer.new)
-        (delivered n (fit_c_tuned_sized t n m.now l.now cpos cneg eps shrinking budget room) cr.old h.old answer.old) }
+        (delivered n (fit_c_tuned_sized t n m.now l.now cpos cneg settings.eps settings.shrinking settings.budget room) cr.old h.old answer.old) }
 {
-    if shrinking {
-        return served_ordered::c(n, m, l, cpos, cneg, eps, budget, t, cr, h, answer);
+    if settings.shrinking {
+        return served_ordered::c(n, m, l, cpos, cneg, settings, t, cr, h, answer);
     }
-    served_still::c(n, m, l, cpos, cneg, eps, budget, t, cr, h, answer)
+    served_still::c(n, m, l, cpos, cneg, settings, t, cr, h, answer)
 }
 
 pub fn nu(
@@ -169,9 +160,7 @@ pub fn nu(
     m: &[u8],
     l: &[u8],
     nu: f64,
-    eps: f64,
-    shrinking: bool,
-    budget: u64,
+    settings: Settings,
     t: Tuning,
     cr: &mut [u8],
     h: &mut [u8],
@@ -179,21 +168,19 @@ pub fn nu(
 ) -> u64
     requires { (Room n (length m.now) 512 512 3584 1024 512) × (n ≤ length l.now) × (8 * n ≤ length cr.old) × (8 * n ≤ length h.old) × (72 ≤ length answer.old) }
     ensures { ◌≡◌ {A = Handed} (handed result cr.new h.new answer.new)
-        (delivered n (fit_nu_tuned_sized t n m.now l.now nu eps shrinking budget room) cr.old h.old answer.old) }
+        (delivered n (fit_nu_tuned_sized t n m.now l.now nu settings.eps settings.shrinking settings.budget room) cr.old h.old answer.old) }
 {
-    if shrinking {
-        return served_ordered::nu(n, m, l, nu, eps, budget, t, cr, h, answer);
+    if settings.shrinking {
+        return served_ordered::nu(n, m, l, nu, settings, t, cr, h, answer);
     }
-    served_still::nu(n, m, l, nu, eps, budget, t, cr, h, answer)
+    served_still::nu(n, m, l, nu, settings, t, cr, h, answer)
 }
 
 pub fn one_class(
     n: usize,
     m: &[u8],
     nu: f64,
-    eps: f64,
-    shrinking: bool,
-    budget: u64,
+    settings: Settings,
     t: Tuning,
     cr: &mut [u8],
     h: &mut [u8],
@@ -201,10 +188,10 @@ pub fn one_class(
 ) -> u64
     requires { (Room n (length m.now) 512 512 3584 1024 512) × (8 * n ≤ length cr.old) × (8 * n ≤ length h.old) × (72 ≤ length answer.old) }
     ensures { ◌≡◌ {A = Handed} (handed result cr.new h.new answer.new)
-        (delivered n (fit_one_class_tuned_sized t n m.now nu eps shrinking budget room) cr.old h.old answer.old) }
+        (delivered n (fit_one_class_tuned_sized t n m.now nu settings.eps settings.shrinking settings.budget room) cr.old h.old answer.old) }
 {
-    if shrinking {
-        return served_ordered::one_class(n, m, nu, eps, budget, t, cr, h, answer);
+    if settings.shrinking {
+        return served_ordered::one_class(n, m, nu, settings, t, cr, h, answer);
     }
-    served_still::one_class(n, m, nu, eps, budget, t, cr, h, answer)
+    served_still::one_class(n, m, nu, settings, t, cr, h, answer)
 }

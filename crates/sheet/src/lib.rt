@@ -1,5 +1,5 @@
 // The leaves of a training without an order table: one sample's copies, all copies shifted, and one step.
-// The parameters f and y are the lent floats and labels, and cpos and cneg the ceilings by label: orderless/specs/Sheet.antt.
+// The parameters f and y are the lent floats and labels: orderless/specs/Sheet.antt.
 #![tactic(auto)]
 
 ghost use Rattle.std.specs.Prelude.{◌≡◌, ◌+◌, ◌*◌, ◌≤◌, ◌<◌, eqb, length, get_or};
@@ -24,10 +24,19 @@ pub fn plain_of(x: f64) -> f64
     if x == 0.0 { 0.0 } else { x }
 }
 
-fn ceiling(pos: bool, cpos: f64, cneg: f64) -> f64
-    ensures { result ≡ ceilings_of cpos cneg pos }
-{
-    if pos { cpos } else { cneg }
+// The two ceilings, by label.
+#[derive(Clone, Copy, Debug, PartialEq)]
+pub struct Costs {
+    pub pos: f64,
+    pub neg: f64,
+}
+
+impl Costs {
+    fn of(self, pos: bool) -> f64
+        ensures { result ≡ ceilings_of self.pos self.neg pos }
+    {
+        if pos { self.pos } else { self.neg }
+    }
 }
 
 // What the copy for seconds of label t holds of a sample of label pos with the weight w, where F is v.
@@ -67,10 +76,10 @@ fn raise(f: &mut [f64], nu: bool, n: usize, k: usize, x: f64)
     requires { (k < n) × (n ≤ 512) × (5 * n ≤ length f.old) }
     ensures { f.new ≡ raised_in nu n f.old k x }
 {
-    f[k] = f[k] + x;
-    f[3 * n + k] = f[3 * n + k] + x;
+    f[k] += x;
+    f[3 * n + k] += x;
     if nu {
-        f[4 * n + k] = f[4 * n + k] + x;
+        f[4 * n + k] += x;
     }
 }
 
@@ -90,6 +99,7 @@ fn shift(
     ensures { f.new ≡ shift_in nu n (λ k. add binary64 (mul binary64 (entry_at side m.now i k) x)
         (mul binary64 (entry_at side m.now j k) z)) f.old n }
 {
+    // By k: it is the sample.
     for k in 0..n {
         let a = kernel::entry(m, side, i, k);
         let b = kernel::entry(m, side, j, k);
@@ -98,11 +108,11 @@ fn shift(
 }
 
 // The weight of sample k under the ceiling of its label.
-pub fn alpha_in(f: &[f64], y: &[u8], nu: bool, n: usize, k: usize, cpos: f64, cneg: f64) -> Alpha
+pub fn alpha_in(f: &[f64], y: &[u8], nu: bool, n: usize, k: usize, costs: Costs) -> Alpha
     requires { (k < n) × (n ≤ 512) × (5 * n ≤ length f.now) × (n ≤ length y.now) }
-    ensures { result ≡ alpha_of y.now (ceilings_of cpos cneg) (read_in nu n f.now) k }
+    ensures { result ≡ alpha_of y.now (ceilings_of costs.pos costs.neg) (read_in nu n f.now) k }
 {
-    Alpha::from(f[n + k], ceiling(y[k] == 1, cpos, cneg))
+    Alpha::from(f[n + k], costs.of(y[k] == 1))
 }
 
 // Where the copy for seconds of label t begins.
@@ -114,12 +124,12 @@ pub fn up_field(nu: bool, n: usize, t: bool) -> usize
 }
 
 // F of sample k, from a copy that is open.
-pub fn own(f: &[f64], y: &[u8], nu: bool, n: usize, k: usize, cpos: f64, cneg: f64) -> f64
+pub fn own(f: &[f64], y: &[u8], nu: bool, n: usize, k: usize, costs: Costs) -> f64
     requires { (k < n) × (n ≤ 512) × (5 * n ≤ length f.now) × (n ≤ length y.now) }
-    ensures { result ≡ own_of y.now (ceilings_of cpos cneg) (read_in nu n f.now) k }
+    ensures { result ≡ own_of y.now (ceilings_of costs.pos costs.neg) (read_in nu n f.now) k }
 {
     let pos = y[k] == 1;
-    let w = alpha_in(f, y, nu, n, k, cpos, cneg);
+    let w = alpha_in(f, y, nu, n, k, costs);
     if partner::may_rise(pos, w) {
         return f[up_field(nu, n, pos) + k];
     }
@@ -127,33 +137,24 @@ pub fn own(f: &[f64], y: &[u8], nu: bool, n: usize, k: usize, cpos: f64, cneg: f
 }
 
 // The gradient of sample k.
-pub fn slope(f: &[f64], y: &[u8], g: Given, k: usize, cpos: f64, cneg: f64) -> f64
+pub fn slope(f: &[f64], y: &[u8], g: Given, k: usize, costs: Costs) -> f64
     requires { (k < g.n) × (g.n ≤ 512) × (5 * g.n ≤ length f.now) × (g.n ≤ length y.now) }
-    ensures { result ≡ plain (signed_of (eqb (get_or y.now k 0) 1) (own_of y.now (ceilings_of cpos cneg) (read_in g.nu g.n f.now) k)) }
+    ensures { result ≡ plain (signed_of (eqb (get_or y.now k 0) 1) (own_of y.now (ceilings_of costs.pos costs.neg) (read_in g.nu g.n f.now) k)) }
 {
-    let v = own(f, y, g.nu, g.n, k, cpos, cneg);
+    let v = own(f, y, g.nu, g.n, k, costs);
     plain_of(kernel::signed(y[k] == 1, v))
 }
 
 // The two new weights of a step on samples i and j.
-fn pair_for(
-    f: &[f64],
-    y: &[u8],
-    m: &[u8],
-    g: Given,
-    i: usize,
-    j: usize,
-    cpos: f64,
-    cneg: f64,
-) -> Pair
+fn pair_for(f: &[f64], y: &[u8], m: &[u8], g: Given, i: usize, j: usize, costs: Costs) -> Pair
     requires { (SheetReady g m.now y.now f.now) × (i < g.n) × (j < g.n) }
-    ensures { result ≡ pair_for g m.now y.now (ceilings_of cpos cneg) (read_in g.nu g.n f.now) i j }
+    ensures { result ≡ pair_for g m.now y.now (ceilings_of costs.pos costs.neg) (read_in g.nu g.n f.now) i j }
 {
     let side = g.side;
-    let wi = alpha_in(f, y, g.nu, g.n, i, cpos, cneg);
-    let wj = alpha_in(f, y, g.nu, g.n, j, cpos, cneg);
-    let gi = slope(f, y, g, i, cpos, cneg);
-    let gj = slope(f, y, g, j, cpos, cneg);
+    let wi = alpha_in(f, y, g.nu, g.n, i, costs);
+    let wj = alpha_in(f, y, g.nu, g.n, j, costs);
+    let gi = slope(f, y, g, i, costs);
+    let gj = slope(f, y, g, j, costs);
     let di = kernel::entry(m, side, i, i);
     let dj = kernel::entry(m, side, j, j);
     let agree = (y[i] == 1) == (y[j] == 1);
@@ -170,46 +171,28 @@ fn change_of(f: &[f64], y: &[u8], n: usize, k: usize, x: f64) -> f64
 }
 
 // Sample k takes the value x; its F is v.
-pub fn place(
-    f: &mut [f64],
-    y: &[u8],
-    nu: bool,
-    n: usize,
-    k: usize,
-    x: f64,
-    v: f64,
-    cpos: f64,
-    cneg: f64,
-)
+pub fn place(f: &mut [f64], y: &[u8], nu: bool, n: usize, k: usize, x: f64, v: f64, costs: Costs)
     requires { (k < n) × (n ≤ 512) × (5 * n ≤ length f.old) × (n ≤ length y.now) }
     ensures { f.new ≡ put_in nu n f.old k (eqb (get_or y.now k 0) 1)
-        (weight x (ceilings_of cpos cneg (eqb (get_or y.now k 0) 1))) v }
+        (weight x (ceilings_of costs.pos costs.neg (eqb (get_or y.now k 0) 1))) v }
 {
     let pos = y[k] == 1;
-    put(
-        f,
-        nu,
-        n,
-        k,
-        pos,
-        Alpha::from(x, ceiling(pos, cpos, cneg)),
-        v,
-    );
+    put(f, nu, n, k, pos, Alpha::from(x, costs.of(pos)), v);
 }
 
 // One step on samples i and j.
-pub fn step(f: &mut [f64], y: &[u8], m: &[u8], g: Given, i: usize, j: usize, cpos: f64, cneg: f64)
+pub fn step(f: &mut [f64], y: &[u8], m: &[u8], g: Given, i: usize, j: usize, costs: Costs)
     requires { (SheetReady g m.now y.now f.old) × (i < g.n) × (j < g.n) }
-    ensures { f.new ≡ steps g m.now y.now (ceilings_of cpos cneg) f.old i j }
+    ensures { f.new ≡ steps g m.now y.now (ceilings_of costs.pos costs.neg) f.old i j }
 {
     let nu = g.nu;
     let n = g.n;
-    let q = pair_for(f, y, m, g, i, j, cpos, cneg);
+    let q = pair_for(f, y, m, g, i, j, costs);
     let x = change_of(f, y, n, i, q.i.value);
     let z = change_of(f, y, n, j, q.j.value);
-    let vi = own(f, y, nu, n, i, cpos, cneg);
-    let vj = own(f, y, nu, n, j, cpos, cneg);
-    place(f, y, nu, n, i, q.i.value, vi, cpos, cneg);
-    place(f, y, nu, n, j, q.j.value, vj, cpos, cneg);
+    let vi = own(f, y, nu, n, i, costs);
+    let vj = own(f, y, nu, n, j, costs);
+    place(f, y, nu, n, i, q.i.value, vi, costs);
+    place(f, y, nu, n, j, q.j.value, vj, costs);
     shift(f, m, g.side, nu, n, i, j, x, z);
 }

@@ -1,11 +1,13 @@
 -- The walk by its tests. Assumes nothing.
 use Prim.Native.Nat.{ℕ, zero, suc, ◌-◌, ◌≤◌, ◌<◌}
 use mathlib.Core.Bool.{Bool, true, false, cond, ◌&&◌}
+use mathlib.Core.Logic.{inl, inr}
 use mathlib.Core.Path.{◌≡◌, refl}
+use native.Mathlib.Nat.{eq-or-lt_of_le, le_of_suc-le-suc}
 use native.Mathlib.Omega.{arith}
 use borrow.Author.Tests.{lt-ltb, le-ltb}
 use lib.Dec.{leb}
-use Rattle.shrink.specs.Walk.{walking, count_fallen, exchanged, dropped, visited}
+use Rattle.shrink.specs.Walk.{walking, count_fallen, exchanged, dropped, visited, walked}
 
 module _ {S : Type 0} (swap : S → ℕ → ℕ → S) (s : S) (i a : ℕ) where
   pub exchanged_far : i < a → walking a false (swap s i a) ≡ exchanged swap s i a
@@ -61,3 +63,13 @@ module _ {S : Type 0} (drops : S → ℕ → Bool) (s : S) (i : ℕ) where
     unfolding visited dropped
     visited_some zero p e h = absurd (e refl)
     visited_some (suc a) p e h = let q : suc a - 1 ≡ a = omega arith in rw (p, h, q)
+
+module _ {S : Type 0} (ends : Bool) (drops : S → ℕ → Bool) (swap : S → ℕ → ℕ → S) (a : ℕ) (s : S) where
+  -- a refused walk stays as it is
+  pub walked_refused : (m k : ℕ) → m ≤ k → (walked ends drops swap a s m).refused ≡ true → walked ends drops swap a s k ≡ walked ends drops swap a s m
+  unfolding walked visited
+  walked_refused m zero l h = let e : m ≡ 0 = omega arith in rw e
+  walked_refused m (suc k) l h = elim (eq-or-lt_of_le l) [
+    | inl e ↦ rw e
+    | inr q ↦ rw (walked_refused m k (le_of_suc-le-suc q) h, h)
+  ]

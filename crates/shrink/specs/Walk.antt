@@ -1,5 +1,6 @@
 -- The shrink walk, over any state, any test of what is to be dropped and any exchange (the rule, section 'Shrinking').
-use Rattle.std.specs.Prelude.{ℕ, zero, suc, Bool, true, false, cond, ◌&&◌, ltb, leb}
+use Rattle.std.specs.Prelude.{ℕ, zero, suc, Bool, true, false, cond, ◌&&◌, ltb, leb, Option}
+use Rattle.std.specs.Option.{unwrap_or, is_none}
 
 -- the active count, whether it was to fall below 0, and the state
 pub record Walking (S : Type 0) : Type 0 where
@@ -9,6 +10,10 @@ pub record Walking (S : Type 0) : Type 0 where
 
 abbrev pub walking : {S : Type 0} → ℕ → Bool → S → Walking S
 walking a r s = record { active = a; refused = r; state = s }
+
+-- of what a walk gives: the count, or none where it was to fall below 0
+abbrev pub walking_by : {S : Type 0} → Option ℕ → S → Walking S
+walking_by w s = walking (unwrap_or w 0) (is_none w) s
 
 -- the count falls from a while it is above i and what stands at it is to be dropped
 unfoldable pub count_fallen : {S : Type 0} → (S → ℕ → Bool) → S → ℕ → ℕ → ℕ

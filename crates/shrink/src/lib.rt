@@ -1,17 +1,17 @@
 // Shrinking: which positions are to be dropped, and the walk that drops them.
 #![tactic(auto)]
 
-ghost use Rattle.std.specs.Prelude.{◌≡◌, ◌+◌, ◌*◌, ◌≤◌, ◌<◌, length};
+ghost use Rattle.std.specs.Prelude.{false, ◌≡◌, IfSome, ◌+◌, ◌*◌, ◌≤◌, ◌<◌, length};
 ghost use Rattle.state.specs.Lists.{State, state};
 ghost use Rattle.state.specs.Moving.{moved};
-ghost use Rattle.shrink.specs.Walk.{Walking, walking, count_fallen, exchanged, visited, walked};
+ghost use Rattle.shrink.specs.Walk.{Walking, walking, walking_by, count_fallen, exchanged, visited};
 ghost use Rattle.shrink.specs.Drops.{limits_c, limits_nu, upper_drops, lower_drops, drops_by, drops_at, walked_over};
 
 use alpha::Alpha;
 
 // What a gradient must exceed: at upper and at lower, positive and negative. At lower a negative one is asked for −G
 // where it is mirrored. And whether the walk ends at the current count.
-#[derive(Clone, Copy)]
+#[derive(Clone, Copy, Debug, PartialEq)]
 pub struct Limits {
     pub upos: f64,
     pub uneg: f64,
@@ -35,35 +35,24 @@ impl Limits {
         }
     }
 
+    #[tactic(auto, unfolding(crate::specs::Drops::limits_nu))]
     pub fn nu(repaired: bool, gmax1: f64, gmax2: f64, gmax3: f64, gmax4: f64) -> Self
         ensures { result ≡ limits_nu repaired gmax1 gmax2 gmax3 gmax4 }
     {
-        if repaired {
-            return Self {
-                upos: gmax1,
-                uneg: gmax4,
-                lpos: gmax3,
-                lneg: gmax2,
-                mirrored: false,
-                ends: repaired,
-            };
-        }
+        let (lpos, lneg) = if repaired {
+            (gmax3, gmax2)
+        } else {
+            (gmax2, gmax3)
+        };
         Self {
             upos: gmax1,
             uneg: gmax4,
-            lpos: gmax2,
-            lneg: gmax3,
+            lpos,
+            lneg,
             mirrored: false,
             ends: repaired,
         }
     }
-}
-
-// How far a walk has come: the active count, and whether it was to fall below 0.
-#[derive(Clone, Copy)]
-pub struct Walk {
-    pub active: usize,
-    pub refused: bool,
 }
 
 fn at_upper(l: Limits, positive: bool, g: f64) -> bool
@@ -81,6 +70,7 @@ fn at_lower(l: Limits, positive: bool, g: f64) -> bool
     if l.mirrored { -g > l.lneg } else { g > l.lneg }
 }
 
+#[tactic(auto, unfolding(crate::specs::Drops::drops_by))]
 fn should_shrunk(l: Limits, w: Alpha, positive: bool, g: f64) -> bool
     ensures { result ≡ drops_by l w positive g }
 {
@@ -94,6 +84,7 @@ fn should_shrunk(l: Limits, w: Alpha, positive: bool, g: f64) -> bool
 }
 
 // Whether position k is to be dropped.
+#[tactic(auto, unfolding(crate::specs::Drops::drops_at))]
 fn drops(f: &[f64], u: &[u64], y: &[u8], n: usize, l: Limits, k: usize) -> bool
     requires { (k < n) × (n ≤ 512) × (7 * n ≤ length f.now) × (n ≤ length y.now) }
     ensures { result ≡ drops_at n l (state f.now u.now y.now) k }
@@ -107,6 +98,7 @@ fn fall(f: &[f64], u: &[u64], y: &[u8], n: usize, l: Limits, i: usize, start: us
     ensures { (result ≡ count_fallen (drops_at n l) (state f.now u.now y.now) i start) × (result ≤ start) }
 {
     let mut a = start;
+    // No `for`: where nothing holds it, what is left is the lower of start and i.
     while i < a {
         if !drops(f, u, y, n, l, a) {
             return a;
@@ -116,50 +108,46 @@ fn fall(f: &[f64], u: &[u64], y: &[u8], n: usize, l: Limits, i: usize, start: us
     a
 }
 
-fn exchange(f: &mut [f64], u: &mut [u64], y: &mut [u8], n: usize, i: usize, a: usize) -> Walk
+fn exchange(f: &mut [f64], u: &mut [u64], y: &mut [u8], n: usize, i: usize, a: usize)
     requires { (i < n) × (a < n) × (n ≤ 512) × (7 * n ≤ length f.old) × (2 * n ≤ length u.old) × (n ≤ length y.old) }
-    ensures { (◌≡◌ {A = Walking State} (walking result.active result.refused (state f.new u.new y.new))
-        (exchanged (moved n) (state f.old u.old y.old) i a)) × (result.active ≡ a) }
+    ensures { ◌≡◌ {A = Walking State} (walking a false (state f.new u.new y.new))
+        (exchanged (moved n) (state f.old u.old y.old) i a) }
 {
     if i < a {
         state::swap(f, u, y, n, i, a);
-        return Walk {
-            active: a,
-            refused: false,
-        };
-    }
-    Walk {
-        active: a,
-        refused: false,
     }
 }
 
-fn visit(f: &mut [f64], u: &mut [u64], y: &mut [u8], n: usize, l: Limits, i: usize, w: Walk) -> Walk
-    requires { (i < n) × (w.active ≤ n) × (n ≤ 512) × (7 * n ≤ length f.old) × (2 * n ≤ length u.old) × (n ≤ length y.old) }
-    ensures { (◌≡◌ {A = Walking State} (walking result.active result.refused (state f.new u.new y.new))
-        (visited l.ends (drops_at n l) (moved n) i (walking w.active w.refused (state f.old u.old y.old)))) × (result.active ≤ w.active) }
+// Position i: the count afterwards, or none where it was to fall below 0.
+fn visit(
+    f: &mut [f64],
+    u: &mut [u64],
+    y: &mut [u8],
+    n: usize,
+    l: Limits,
+    i: usize,
+    active: usize,
+) -> Option<usize>
+    requires { (i < n) × (active ≤ n) × (n ≤ 512) × (7 * n ≤ length f.old) × (2 * n ≤ length u.old) × (n ≤ length y.old) }
+    ensures { (◌≡◌ {A = Walking State} (walking_by result (state f.new u.new y.new))
+        (visited l.ends (drops_at n l) (moved n) i (walking active false (state f.old u.old y.old)))) × (IfSome result (λ a. a ≤ active)) }
 {
-    if w.refused {
-        return w;
-    }
-    if l.ends & (w.active <= i) {
-        return w;
+    if l.ends & (active <= i) {
+        return Some(active);
     }
     if !drops(f, u, y, n, l, i) {
-        return w;
+        return Some(active);
     }
-    let active = w.active;
     if active == 0 {
-        return Walk {
-            active: 0,
-            refused: true,
-        };
+        return None;
     }
     let a = fall(f, u, y, n, l, i, active - 1);
-    exchange(f, u, y, n, i, a)
+    exchange(f, u, y, n, i, a);
+    Some(a)
 }
 
-// The walk: the range of i is fixed when it starts, and past the current count a walk that ends there changes nothing.
+// The walk from the count start: the count that is left, or none where it was to fall below 0. The range of i is fixed
+// when it starts, and past the current count a walk that ends there changes nothing.
 pub fn walk_over(
     f: &mut [f64],
     u: &mut [u64],
@@ -167,17 +155,15 @@ pub fn walk_over(
     n: usize,
     l: Limits,
     start: usize,
-) -> Walk
+) -> Option<usize>
     requires { (start ≤ n) × (n ≤ 512) × (7 * n ≤ length f.old) × (2 * n ≤ length u.old) × (n ≤ length y.old) }
-    ensures { (◌≡◌ {A = Walking State} (walking result.active result.refused (state f.new u.new y.new))
-        (walked_over n l start (state f.old u.old y.old))) × (result.active ≤ start) }
+    ensures { (◌≡◌ {A = Walking State} (walking_by result (state f.new u.new y.new))
+        (walked_over n l start (state f.old u.old y.old))) × (IfSome result (λ a. a ≤ start)) }
 {
-    let mut w = Walk {
-        active: start,
-        refused: false,
-    };
+    let mut active = start;
+    // No `fold`: it writes all three lists.
     for i in 0..start {
-        w = visit(f, u, y, n, l, i, w);
+        active = visit(f, u, y, n, l, i, active)?;
     }
-    w
+    Some(active)
 }

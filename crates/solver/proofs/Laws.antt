@@ -5,13 +5,14 @@ use mathlib.Core.List.{List}
 use mathlib.Core.Path.{◌≡◌, refl}
 use native.Mathlib.Nat.{zero-add, suc-add}
 use borrow.Author.Tests.{lt-ltb, le-ltb}
+use denote.Enum.Bare.{sameb}
 use lib.Dec.{eqb, ltb}
 use lib.Ieee.{Float, binary64, mul, le}
-use Rattle.choose_c.specs.Choice.{extremes_c, choice_c}
+use Rattle.std.specs.Prelude.{Some, None}
+use Rattle.choose_c.specs.Choice.{choice_c}
 use Rattle.choose_c.proofs.Rule as C
-use Rattle.choose_nu.specs.Choice.{extremes_nu, choice_nu}
+use Rattle.choose_nu.specs.Choice.{choice_nu}
 use Rattle.choose_nu.proofs.Rule as Nu
-use Rattle.extreme.specs.declared.Choice.TheVariants.{Pair, Optimal}
 use Rattle.modes.specs.Modes.{repaired}
 use Rattle.shrink.specs.Drops.{walked_over}
 use Rattle.shrink.specs.Walk.{Walking}
@@ -19,10 +20,26 @@ use Rattle.start.specs.Start.{started}
 use Rattle.state.specs.Lists.{State}
 use Rattle.solver.specs.Run.{ready_of, problem_of, Full, full, with_run, goes, counter_at, active_at, reopened, ended, after_walk, period}
 use Rattle.solver.specs.End.{closed, trained}
-use Rattle.solver.specs.Pass.{ten, chosen, rebuilt, refreshed, tops_c, tops_nu, tops_of, restored, walked_from, shrunk, counted_down, stepped, looked, looked_again, worked_by, worked, onward, passed, next, runs}
+use Rattle.solver.specs.Pass.{ten, chosen, rebuilt, refreshed, tops_of, restored, walked_from, shrunk, counted_down, stepped, looked, looked_again, worked_by, worked, onward, passed, next, runs}
 use Rattle.solver.specs.declared.Given.{Given}
+use Rattle.solver.specs.contracts.Status.{the_type}
 use Rattle.solver.specs.declared.Run.{Run}
+use Rattle.solver.specs.declared.Status.{Status}
+use Rattle.solver.specs.declared.Status.TheVariants.{Going, Done, Refused}
 use Rattle.solver.specs.declared.Tops.{Tops}
+
+-- the derived == and !=
+pub is_going : (s : Status) → sameb the_type s Going ≡ goes s
+unfolding goes
+is_going Going = refl
+is_going Done = refl
+is_going Refused = refl
+
+pub not_going : (s : Status) (x : Bool) → x ≡ not (sameb the_type s Going) → goes s ≡ not x
+unfolding goes
+not_going Going x e = rw e
+not_going Done x e = rw e
+not_going Refused x e = rw e
 
 restored_iterations : (g : Given) (m : List ℕ) (level : Float) (w : Full) → (restored g m level w).run.iterations ≡ w.run.iterations
 unfolding restored
@@ -37,14 +54,6 @@ unfolding shrunk walked_from
 shrunk_iterations g m w = restored_iterations g m (tops_of g m w).level w
 
 module _ (g : Given) (m : List ℕ) (w : Full) where
-  pub tops_nu_law : g.nu ≡ true → tops_nu (repaired g.mode) (extremes_nu (problem_of g m) w.state w.run.active) ≡ tops_of g m w
-  unfolding tops_of
-  tops_nu_law h = rw h
-
-  pub tops_c_law : g.nu ≡ false → tops_c (repaired g.mode) (extremes_c (problem_of g m) w.state w.run.active) ≡ tops_of g m w
-  unfolding tops_of
-  tops_c_law h = rw h
-
   module _ (level : Float) where
     pub restored_before : w.run.unshrink ≡ true → w ≡ restored g m level w
     unfolding restored
@@ -98,30 +107,30 @@ module _ (g : Given) (m : List ℕ) (w : Full) where
   -- ---- the pair
 
   -- both of a pair are active
-  pub chosen_below : (i j : ℕ) → chosen g m w ≡ Pair i j → (i < w.run.active) × (j < w.run.active)
+  pub chosen_below : (i j : ℕ) → chosen g m w ≡ Some (i, j) → (i < w.run.active) × (j < w.run.active)
   unfolding chosen
   chosen_below i j = go g.nu
     where
       go : (x : Bool)
-          → cond x (choice_nu (problem_of g m) w.state g.floor g.eps w.run.active) (choice_c (problem_of g m) w.state g.floor g.eps w.run.active) ≡ Pair i j
+          → cond x (choice_nu (problem_of g m) w.state g.floor g.eps w.run.active) (choice_c (problem_of g m) w.state g.floor g.eps w.run.active) ≡ Some (i, j)
           → (i < w.run.active) × (j < w.run.active)
       go true e = let r = ((Nu.pair_rule (problem_of g m) w.state w.run.active g.floor g.eps i j).0 e).1.second in (r.after.led.inside, r.inside)
       go false e = let r = ((C.pair_rule (problem_of g m) w.state w.run.active g.floor g.eps i j).0 e).1.second in (r.after.led.inside, r.inside)
 
   module _ (b : List Float) where
-    pub looked_pair : (i j : ℕ) → chosen g m w ≡ Pair i j → stepped g m b (with_run w (counter_at w.run 1)) i j ≡ looked_again g m b w
+    pub looked_pair : (i j : ℕ) → chosen g m w ≡ Some (i, j) → stepped g m b (with_run w (counter_at w.run 1)) i j ≡ looked_again g m b w
     unfolding looked
     looked_pair i j e = rw e
 
-    pub looked_none : chosen g m w ≡ Optimal → with_run w (ended w.run) ≡ looked_again g m b w
+    pub looked_none : chosen g m w ≡ None → with_run w (ended w.run) ≡ looked_again g m b w
     unfolding looked
     looked_none e = rw e
 
-    pub worked_pair : (i j : ℕ) → chosen g m w ≡ Pair i j → stepped g m b w i j ≡ worked g m b w
+    pub worked_pair : (i j : ℕ) → chosen g m w ≡ Some (i, j) → stepped g m b w i j ≡ worked g m b w
     unfolding worked_by
     worked_pair i j e = rw e
 
-    pub worked_none : chosen g m w ≡ Optimal → looked_again g m b (refreshed g m w) ≡ worked g m b w
+    pub worked_none : chosen g m w ≡ None → looked_again g m b (refreshed g m w) ≡ worked g m b w
     unfolding worked_by
     worked_none e = rw e
 

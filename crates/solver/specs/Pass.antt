@@ -1,13 +1,11 @@
 -- One pass, and the run (the rule, sections 'Shrinking' and 'Run').
-use Rattle.std.specs.Prelude.{ℕ, zero, suc, ◌-◌, Bool, true, false, not, ◌&&◌, cond, List, ltb, Float}
+use Rattle.std.specs.Prelude.{ℕ, zero, suc, ◌-◌, Bool, true, false, not, ◌&&◌, cond, List, ltb, Float, Option, Some, None}
 use Rattle.std.specs.Float.{binary64}
 use Rattle.std.specs.Float.Ieee.{of_bits, add, mul, le}
 use Rattle.choose_c.specs.Choice.{extremes_c, choice_c}
 use Rattle.choose_c.specs.declared.Extremes.{Extremes}
-use Rattle.choose_nu.specs.Choice.{extremes_nu, placed, choice_nu}
-use Rattle.extreme.specs.declared.Choice.{Choice}
-use Rattle.extreme.specs.declared.Choice.TheVariants.{Pair, Optimal}
-use Rattle.extreme.specs.declared.Extreme.{Extreme}
+use Rattle.choose_nu.specs.Choice.{extremes_nu, choice_nu}
+use Rattle.choose_nu.specs.declared.Extremes.{Extremes as ExtremesNu}
 use Rattle.floats.specs.Helpers.{max_of}
 use Rattle.modes.specs.Modes.{repaired}
 use Rattle.reconstruct.specs.Reconstruct.{reconstructed}
@@ -33,12 +31,12 @@ tops_c x e =
 unfoldable pub level_nu : Bool → Float → Float → Float → Float → Float
 level_nu x a b c d = cond x (max_of (add binary64 a c) (add binary64 b d)) (max_of (add binary64 a b) (add binary64 c d))
 
-abbrev pub tops_nu : Bool → List Extreme → Tops
-tops_nu x es =
-    let a = (placed es 0).value in
-    let b = (placed es 1).value in
-    let c = (placed es 2).value in
-    let d = (placed es 3).value in
+abbrev pub tops_nu : Bool → ExtremesNu → Tops
+tops_nu x e =
+    let a = e.gmaxp1.value in
+    let b = e.gmaxn1.value in
+    let c = e.gmaxp2.value in
+    let d = e.gmaxn2.value in
     record { limits = limits_nu x a b c d; level = level_nu x a b c d }
 
 abbrev pub walked_full : Run → Walking State → Full
@@ -47,7 +45,7 @@ walked_full r k = record { run = after_walk r k.active k.refused; state = k.stat
 -- m is the lent matrix, b the ceilings by place
 module _ (g : Given) (m : List ℕ) where
   -- the pair, by the rule that holds
-  unfoldable pub chosen : Full → Choice
+  unfoldable pub chosen : Full → Option (ℕ × ℕ)
   chosen w =
       cond g.nu
       (choice_nu (problem_of g m) w.state g.floor g.eps w.run.active)
@@ -97,16 +95,16 @@ module _ (g : Given) (m : List ℕ) where
         with_run (with_floats w (updated (problem_of g m) b g.mode g.floor w.state i j w.run.active)) (advanced w.run)
 
     -- the second look: a pair found now makes the next pass shrink
-    unfoldable pub looked : Full → Choice → Full
-    looked w (Pair i j) = stepped (with_run w (counter_at w.run 1)) i j
-    looked w Optimal = with_run w (ended w.run)
+    unfoldable pub looked : Full → Option (ℕ × ℕ) → Full
+    looked w (Some (i, j)) = stepped (with_run w (counter_at w.run 1)) i j
+    looked w None = with_run w (ended w.run)
 
     abbrev pub looked_again : Full → Full
     looked_again w = looked w (chosen w)
 
-    unfoldable pub worked_by : Full → Choice → Full
-    worked_by w (Pair i j) = stepped w i j
-    worked_by w Optimal = looked_again (refreshed w)
+    unfoldable pub worked_by : Full → Option (ℕ × ℕ) → Full
+    worked_by w (Some (i, j)) = stepped w i j
+    worked_by w None = looked_again (refreshed w)
 
     abbrev pub worked : Full → Full
     worked w = worked_by w (chosen w)

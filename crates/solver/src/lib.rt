@@ -2,17 +2,18 @@
 #![tactic(auto)]
 
 ghost use Rattle.std.specs.Prelude.{cond, ◌≡◌, ◌+◌, ◌-◌, ◌*◌, ◌≤◌, ◌<◌, length};
+ghost use Rattle.std.specs.Option.{unwrap_or, is_none};
 ghost use Rattle.modes.specs.Modes.{repaired};
-ghost use Rattle.state.specs.Lists.{problem, state, Ready};
+ghost use Rattle.state.specs.Lists.{given, state, Ready};
 ghost use Rattle.solver.specs.End.{closed, sum_to, objective_of, trained};
-ghost use Rattle.solver.specs.Run.{ready_of, problem_of, Full, full, goes, counter_at, active_at, reopened, advanced, ended, after_walk, period, Sound};
+ghost use Rattle.solver.specs.Run.{ready_of, problem_of, Full, full, counter_at, active_at, reopened, advanced, ended, after_walk, period, Sound};
 ghost use Rattle.solver.specs.Pass.{chosen, rebuilt, refreshed, level_nu, tops_c, tops_nu, tops_of, restored, shrunk, counted_down, stepped, looked_again, worked, passed, runs};
 
 use choose_c::Extremes;
-use extreme::{Choice, Extreme};
-use kernel::Kind;
+use kernel::{Kind, Problem};
 use modes::Mode;
-use shrink::{Limits, Walk};
+use shrink::Limits;
+use update::Ceilings;
 
 // What doesn't change in a run, besides the lent lists.
 #[derive(Clone, Copy)]
@@ -27,14 +28,28 @@ pub struct Given {
     pub nu: bool,
 }
 
-#[derive(Clone, Copy)]
+impl Given {
+    // What a run over the matrix m is given.
+    fn problem<'a>(self, m: &'a [u8]) -> Problem<'a>
+        ensures { given result ≡ problem_of self m.now }
+    {
+        Problem {
+            n: self.n,
+            side: self.side,
+            kind: self.kind,
+            matrix: m,
+        }
+    }
+}
+
+#[derive(Clone, Copy, Debug, PartialEq, Eq)]
 pub enum Status {
     Going,
     Done,
     Refused,
 }
 
-#[derive(Clone, Copy)]
+#[derive(Clone, Copy, Debug, PartialEq, Eq)]
 pub struct Run {
     pub active: usize,
     pub counter: usize,
@@ -44,59 +59,31 @@ pub struct Run {
 }
 
 // What shrinking asks of the extremes.
-#[derive(Clone, Copy)]
+#[derive(Clone, Copy, Debug, PartialEq)]
 pub struct Tops {
     pub limits: Limits,
     pub level: f64,
 }
 
-fn going(r: Run) -> bool
-    ensures { result ≡ goes r.status }
-{
-    let s = r.status;
-    match s {
-        Status::Going => true,
-        Status::Done => false,
-        Status::Refused => false,
-    }
-}
-
 fn with_counter(r: Run, c: usize) -> Run
     ensures { result ≡ counter_at r c }
 {
-    let s = r.status;
-    Run {
-        active: r.active,
-        counter: c,
-        iterations: r.iterations,
-        unshrink: r.unshrink,
-        status: s,
-    }
+    Run { counter: c, ..r }
 }
 
 fn with_active(r: Run, a: usize) -> Run
     ensures { result ≡ active_at r a }
 {
-    let s = r.status;
-    Run {
-        active: a,
-        counter: r.counter,
-        iterations: r.iterations,
-        unshrink: r.unshrink,
-        status: s,
-    }
+    Run { active: a, ..r }
 }
 
 fn reopen(r: Run, n: usize) -> Run
     ensures { result ≡ reopened r n }
 {
-    let s = r.status;
     Run {
         active: n,
-        counter: r.counter,
-        iterations: r.iterations,
         unshrink: true,
-        status: s,
+        ..r
     }
 }
 
@@ -104,13 +91,9 @@ fn advance(r: Run) -> Run
     requires { r.iterations < 10000000 }
     ensures { result ≡ advanced r }
 {
-    let s = r.status;
     Run {
-        active: r.active,
-        counter: r.counter,
         iterations: r.iterations + 1,
-        unshrink: r.unshrink,
-        status: s,
+        ..r
     }
 }
 
@@ -118,63 +101,49 @@ fn end(r: Run) -> Run
     ensures { result ≡ ended r }
 {
     Run {
-        active: r.active,
-        counter: r.counter,
-        iterations: r.iterations,
-        unshrink: r.unshrink,
         status: Status::Done,
+        ..r
     }
 }
 
-fn after_walk(r: Run, w: Walk) -> Run
-    ensures { result ≡ after_walk r w.active w.refused }
+fn after_walk(r: Run, w: Option<usize>) -> Run
+    ensures { result ≡ after_walk r (unwrap_or w 0) (is_none w) }
 {
-    let s = r.status;
-    if w.refused {
-        return Run {
-            active: w.active,
-            counter: r.counter,
-            iterations: r.iterations,
-            unshrink: r.unshrink,
+    match w {
+        Some(active) => Run { active, ..r },
+        None => Run {
+            active: 0,
             status: Status::Refused,
-        };
-    }
-    Run {
-        active: w.active,
-        counter: r.counter,
-        iterations: r.iterations,
-        unshrink: r.unshrink,
-        status: s,
+            ..r
+        },
     }
 }
 
+#[tactic(auto, unfolding(crate::specs::Run::period))]
 fn period_of(n: usize) -> usize
     requires { 1 ≤ n }
     ensures { (result ≡ period n) × (1 ≤ result) × (result ≤ 1000) }
 {
-    if n < 1000 { n } else { 1000 }
+    n.min(1000)
 }
 
 pub fn is_repaired(g: Given) -> bool
     ensures { result ≡ repaired g.mode }
 {
-    let mode = g.mode;
-    modes::repaired(mode)
+    modes::repaired(g.mode)
 }
 
 // The pair, by the rule that holds.
-fn select(f: &[f64], u: &[u64], y: &[u8], m: &[u8], g: Given, r: Run) -> Choice
+#[tactic(auto, unfolding(crate::specs::Pass::chosen))]
+fn select(f: &[f64], u: &[u64], y: &[u8], m: &[u8], g: Given, r: Run) -> Option<(usize, usize)>
     requires { (Ready (problem_of g m.now) (state f.now u.now y.now)) × (r.active ≤ g.n) }
     ensures { result ≡ chosen g m.now (full r f.now u.now y.now) }
 {
-    let n = g.n;
-    let side = g.side;
-    let kind = g.kind;
-    let active = r.active;
+    let p = g.problem(m);
     if g.nu {
-        choose_nu::select_working_set_nu(f, u, y, n, side, kind, m, g.floor, g.eps, active)
+        choose_nu::select_working_set_nu(f, u, y, p, g.floor, g.eps, r.active)
     } else {
-        choose_c::select_working_set(f, u, y, n, side, kind, m, g.floor, g.eps, active)
+        choose_c::select_working_set(f, u, y, p, g.floor, g.eps, r.active)
     }
 }
 
@@ -189,6 +158,7 @@ fn tops_c(x: bool, e: Extremes) -> Tops
     }
 }
 
+#[tactic(auto, unfolding(crate::specs::Pass::level_nu))]
 fn level_nu(x: bool, a: f64, b: f64, c: f64, d: f64) -> f64
     ensures { result ≡ level_nu x a b c d }
 {
@@ -199,57 +169,43 @@ fn level_nu(x: bool, a: f64, b: f64, c: f64, d: f64) -> f64
     }
 }
 
-fn tops_nu(x: bool, es: [Extreme; 4]) -> Tops
-    ensures { result ≡ tops_nu x es }
+fn tops_nu(x: bool, e: choose_nu::Extremes) -> Tops
+    ensures { result ≡ tops_nu x e }
 {
-    let p1 = es[0];
-    let n1 = es[1];
-    let p2 = es[2];
-    let n2 = es[3];
-    let a = p1.value;
-    let b = n1.value;
-    let c = p2.value;
-    let d = n2.value;
+    let a = e.gmaxp1.value;
+    let b = e.gmaxn1.value;
+    let c = e.gmaxp2.value;
+    let d = e.gmaxn2.value;
     Tops {
         limits: Limits::nu(x, a, b, c, d),
         level: level_nu(x, a, b, c, d),
     }
 }
 
+#[tactic(auto, unfolding(crate::specs::Pass::tops_of))]
 fn tops_of(f: &[f64], u: &[u64], y: &[u8], m: &[u8], g: Given, r: Run) -> Tops
     requires { (Ready (problem_of g m.now) (state f.now u.now y.now)) × (r.active ≤ g.n) }
     ensures { result ≡ tops_of g m.now (full r f.now u.now y.now) }
 {
-    let n = g.n;
-    let side = g.side;
-    let kind = g.kind;
-    let active = r.active;
+    let p = g.problem(m);
     let x = is_repaired(g);
     if g.nu {
-        tops_nu(
-            x,
-            choose_nu::max_violating_pair_nu(f, u, y, n, side, kind, m, active),
-        )
+        tops_nu(x, partner::max_violating_pair(f, u, y, p, r.active))
     } else {
-        tops_c(
-            x,
-            choose_c::max_violating_pair(f, u, y, n, side, kind, m, active),
-        )
+        tops_c(x, partner::max_violating_pair(f, u, y, p, r.active))
     }
 }
 
 // The gradients of the inactive positions, computed anew.
+#[tactic(auto, unfolding(crate::specs::Pass::rebuilt))]
 fn rebuild(f: &mut [f64], u: &[u64], y: &[u8], m: &[u8], g: Given, r: Run)
     requires { (Ready (problem_of g m.now) (state f.old u.now y.now)) × (r.active ≤ g.n) }
     ensures { ◌≡◌ {A = Full} (full r f.new u.now y.now)
         (rebuilt g m.now (full r f.old u.now y.now)) }
 {
-    let n = g.n;
-    let side = g.side;
-    let kind = g.kind;
-    let active = r.active;
+    let p = g.problem(m);
     let x = is_repaired(g);
-    reconstruct::reconstruct_gradient(f, u, y, m, n, side, kind, x, active);
+    reconstruct::reconstruct_gradient(f, u, y, p, x, r.active);
 }
 
 fn refreshed_run(g: Given, r: Run) -> Run
@@ -322,6 +278,7 @@ fn count_down(f: &mut [f64], u: &mut [u64], y: &mut [u8], m: &[u8], g: Given, r:
 }
 
 // One iteration.
+#[tactic(auto, unfolding(crate::specs::Pass::stepped))]
 fn step(
     f: &mut [f64],
     u: &[u64],
@@ -339,12 +296,11 @@ fn step(
         (stepped g m.now b.now (full r f.old u.now y.now) i j))
         × (Sound g.n result) × (result.iterations ≤ r.iterations + 1) }
 {
-    let n = g.n;
-    let side = g.side;
-    let kind = g.kind;
-    let active = r.active;
-    let mode = g.mode;
-    update::update(f, u, y, m, b, n, side, kind, active, i, j, mode, g.floor);
+    let ceilings = Ceilings {
+        places: b,
+        mode: g.mode,
+    };
+    update::update(f, u, y, g.problem(m), &ceilings, r.active, i, j, g.floor);
     advance(r)
 }
 
@@ -356,10 +312,9 @@ fn look(f: &mut [f64], u: &[u64], y: &[u8], m: &[u8], b: &[f64], g: Given, r: Ru
         (looked_again g m.now b.now (full r f.old u.now y.now)))
         × (Sound g.n result) × (result.iterations ≤ r.iterations + 1) }
 {
-    let c = select(f, u, y, m, g, r);
-    match c {
-        Choice::Pair(i, j) => step(f, u, y, m, b, g, with_counter(r, 1), i, j),
-        Choice::Optimal => end(r),
+    match select(f, u, y, m, g, r) {
+        Some((i, j)) => step(f, u, y, m, b, g, with_counter(r, 1), i, j),
+        None => end(r),
     }
 }
 
@@ -371,10 +326,9 @@ fn work(f: &mut [f64], u: &[u64], y: &[u8], m: &[u8], b: &[f64], g: Given, r: Ru
         (worked g m.now b.now (full r f.old u.now y.now)))
         × (Sound g.n result) × (result.iterations ≤ r.iterations + 1) }
 {
-    let c = select(f, u, y, m, g, r);
-    match c {
-        Choice::Pair(i, j) => step(f, u, y, m, b, g, r, i, j),
-        Choice::Optimal => {
+    match select(f, u, y, m, g, r) {
+        Some((i, j)) => step(f, u, y, m, b, g, r, i, j),
+        None => {
             let q = refresh(f, u, y, m, g, r);
             look(f, u, y, m, b, g, q)
         }
@@ -390,7 +344,7 @@ fn pass(f: &mut [f64], u: &mut [u64], y: &mut [u8], m: &[u8], b: &[f64], g: Give
         × (Ready (problem_of g m.now) (state f.new u.new y.new)) }
 {
     let q = count_down(f, u, y, m, g, r);
-    if going(q) {
+    if q.status == Status::Going {
         return work(f, u, y, m, b, g, q);
     }
     q
@@ -414,13 +368,11 @@ pub fn solve(
         × (Sound g.n result) × (Ready (problem_of g m.now) (state f.new u.new y.new)) }
 {
     let mut r = start;
-    let mut t: usize = 0;
-    while t < budget {
-        if !going(r) {
+    for _ in 0..budget {
+        if r.status != Status::Going {
             return r;
         }
         r = pass(f, u, y, m, b, g, r);
-        t += 1;
     }
     r
 }
@@ -444,6 +396,7 @@ pub fn objective(f: &[f64], n: usize) -> f64
     ensures { result ≡ objective_of n f.now }
 {
     let mut v = 0.0;
+    // By k: three fields of one list are read at it.
     for k in 0..n {
         v = v + f[2 * n + k] * (f[k] + f[4 * n + k]);
     }
@@ -479,10 +432,7 @@ pub fn train(
         (trained g m.now b.now budget (state f.old u.old y.old)))
         × (Sound g.n result) × (Ready (problem_of g m.now) (state f.new u.new y.new)) }
 {
-    let n = g.n;
-    let side = g.side;
-    let kind = g.kind;
-    start::start(f, u, y, m, b, n, side, kind);
-    let r = solve(f, u, y, m, b, g, budget, ready(n));
+    start::start(f, u, y, g.problem(m), b);
+    let r = solve(f, u, y, m, b, g, budget, ready(g.n));
     close(f, u, y, m, g, budget, r)
 }

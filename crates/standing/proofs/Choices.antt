@@ -5,20 +5,19 @@ use mathlib.Core.Path.{◌≡◌, refl, ap, ap₂, ◌∙◌}
 use native.Mathlib.Omega.{arith}
 use lib.Dec.{eqb}
 use lib.Ieee.{Float, inf, lt}
+use Rattle.std.proofs.lemmas.Option.{none-some}
+use Rattle.std.specs.Prelude.{Option, Some, None, is_some}
 use Rattle.alpha.specs.Weight.{weight, zero}
 use Rattle.alpha.specs.declared.Alpha.{Alpha}
 use Rattle.choose_c.specs.Choice.{stop_c}
 use Rattle.choose_c.specs.declared.Extremes.{Extremes}
 use Rattle.choose_nu.specs.Choice.{of_label, stop_nu}
 use Rattle.extreme.specs.Best.{at_least, above, at_most}
-use Rattle.extreme.specs.declared.Choice.TheVariants.{Pair}
 use Rattle.extreme.specs.declared.Extreme.{Extreme}
-use Rattle.extreme.specs.declared.Found.{Found}
-use Rattle.extreme.specs.declared.Found.TheVariants.{At, Nobody}
 use Rattle.extreme.proofs.Alike.{over_alike, best_eligible}
 use Rattle.partner.specs.Curvature.{gap_of}
-use Rattle.partner.specs.Second.{is_at, place_of, follows, gain_of, paired, paired_with}
-use Rattle.partner.proofs.Rule.{at_place, not_optimal}
+use Rattle.partner.specs.Second.{place_of, follows, gain_of, paired, paired_with}
+use Rattle.partner.proofs.Rule.{at_place, paired_is}
 use Rattle.partner.specs.Sides.{rises_of, falls_of, rise_of, fall_of, may_rise, may_fall, rise, fall}
 use Rattle.rounding.proofs.Order.{holds}
 use Rattle.state.specs.Fields.{gradient, alpha, positive}
@@ -77,9 +76,9 @@ module _ (stands : ℕ → Bool) (p q : Problem) (s t : State) (A : Alike stands
     -- ---- the second, and the choice: the holders of the leads stand
 
     module _ (floor : Float) (lead lead' : Bool → Extreme) (same : (x : Bool) → lead x ≡ lead' x)
-        (holder : (x : Bool) (i : ℕ) → (lead x).holder ≡ At i → (i < a) × (stands i ≡ true)) where
+        (holder : (x : Bool) (i : ℕ) → (lead x).holder ≡ Some i → (i < a) × (stands i ≡ true)) where
       follows_by : (x x' : Bool) (e e' : Extreme) (w w' : Alpha) (g g' : Float) → x ≡ x' → e ≡ e' → w ≡ w' → g ≡ g'
-          → (is_at e.holder && (falls_of x w && lt zero (gap_of x e.value g))) ≡ (is_at e'.holder && (falls_of x' w' && lt zero (gap_of x' e'.value g')))
+          → (is_some e.holder && (falls_of x w && lt zero (gap_of x e.value g))) ≡ (is_some e'.holder && (falls_of x' w' && lt zero (gap_of x' e'.value g')))
       follows_by x x' e e' w w' g g' c d f h = rw (c, d, f, h)
 
       lead_same : (j : ℕ) → j < p.n → stands j ≡ true → lead (positive s j) ≡ lead' (positive t j)
@@ -99,7 +98,7 @@ module _ (stands : ℕ → Bool) (p q : Problem) (s t : State) (A : Alike stands
           ≡ gain_of q t floor (lead' (positive t j)).value (place_of (lead' (positive t j)).holder) j
       gain_same j c h f =
           let e = lead (positive s j) in
-          let u = holder (positive s j) (place_of e.holder) (at_place e.holder ((holds _).1 (first_true (is_at e.holder) _ f))) in
+          let u = holder (positive s j) (place_of e.holder) (at_place e.holder ((holds _).1 (first_true (is_some e.holder) _ f))) in
           gain_by e.value (place_of e.holder) j (omega (arith, u.0)) c u.1 h
           ∙ ap (λ (x : Extreme). gain_of q t floor x.value (place_of x.holder) j) (lead_same j c h)
 
@@ -111,7 +110,7 @@ module _ (stands : ℕ → Bool) (p q : Problem) (s t : State) (A : Alike stands
           (λ j. gain_of q t floor (lead' (positive t j)).value (place_of (lead' (positive t j)).holder) j) a
           (λ j c h. (follows_same j (omega arith) h, gain_same j (omega arith) h))
 
-      second_stands : (j : ℕ) → (second_over stands p s floor lead a).holder ≡ At j → (j < a) × (stands j ≡ true)
+      second_stands : (j : ℕ) → (second_over stands p s floor lead a).holder ≡ Some j → (j < a) × (stands j ≡ true)
       unfolding second_over
       second_stands j e =
           let r = best_eligible at_most (inf false) (λ j. stands j && follows p s lead j) (λ j. gain_of p s floor (lead (positive s j)).value (place_of (lead (positive s j)).holder) j) a j e in
@@ -122,35 +121,31 @@ module _ (stands : ℕ → Bool) (p q : Problem) (s t : State) (A : Alike stands
       choice_alike true = refl
       choice_alike false = go (second_over stands p s floor lead a).holder refl ∙ ap (λ (e : Extreme). paired_with (λ j. (lead' (positive t j)).holder) e.holder) second_alike
         where
-          go : (h : Found) → (second_over stands p s floor lead a).holder ≡ h → paired_with (λ j. (lead (positive s j)).holder) h ≡ paired_with (λ j. (lead' (positive t j)).holder) h
-          go (At j) e = let r = second_stands j e in ap (λ (x : Extreme). paired x.holder j) (lead_same j (omega (arith, r.0)) r.1)
-          go Nobody e = refl
-
-      paired_is : (h : Found) (k i j : ℕ) → paired h k ≡ Pair i j → (h ≡ At i) × (k ≡ j)
-      paired_is (At h) k i j e = let x : h ≡ i = cc in let y : k ≡ j = cc in (ap At x, y)
-      paired_is Nobody k i j e = absurd (not_optimal i j e)
+          go : (h : Option ℕ) → (second_over stands p s floor lead a).holder ≡ h → paired_with (λ j. (lead (positive s j)).holder) h ≡ paired_with (λ j. (lead' (positive t j)).holder) h
+          go (Some j) e = let r = second_stands j e in ap (λ (x : Extreme). paired x.holder j) (lead_same j (omega (arith, r.0)) r.1)
+          go None e = refl
 
       -- both of a pair stand
-      pub pair_stands : (stop : Bool) (i j : ℕ) → choice_over stands p s floor lead stop a ≡ Pair i j → ((i < a) × (stands i ≡ true)) × ((j < a) × (stands j ≡ true))
+      pub pair_stands : (stop : Bool) (i j : ℕ) → choice_over stands p s floor lead stop a ≡ Some (i, j) → ((i < a) × (stands i ≡ true)) × ((j < a) × (stands j ≡ true))
       unfolding choice_over
-      pair_stands true i j e = absurd (not_optimal i j e)
+      pair_stands true i j e = absurd (none-some (i, j) e)
       pair_stands false i j e = go (second_over stands p s floor lead a).holder refl e
         where
-          go : (h : Found) → (second_over stands p s floor lead a).holder ≡ h → paired_with (λ j. (lead (positive s j)).holder) h ≡ Pair i j
+          go : (h : Option ℕ) → (second_over stands p s floor lead a).holder ≡ h → paired_with (λ j. (lead (positive s j)).holder) h ≡ Some (i, j)
               → ((i < a) × (stands i ≡ true)) × ((j < a) × (stands j ≡ true))
-          go (At k) z w =
+          go (Some k) z w =
               let r = paired_is (lead (positive s k)).holder k i j w in
-              (holder (positive s k) i r.0, second_stands j (z ∙ ap At r.1))
-          go Nobody z w = absurd (not_optimal i j w)
+              (holder (positive s k) i r.0, second_stands j (z ∙ ap Some r.1))
+          go None z w = absurd (none-some (i, j) w)
 
     -- ---- by rule
 
-    gmax1_stands : (i : ℕ) → (extremes_over stands p s a).gmax1.holder ≡ At i → (i < a) × (stands i ≡ true)
+    gmax1_stands : (i : ℕ) → (extremes_over stands p s a).gmax1.holder ≡ Some i → (i < a) × (stands i ≡ true)
     unfolding extremes_over
     gmax1_stands i e =
         let r = best_eligible at_least (inf true) (λ k. stands k && may_rise p s k) (rise p s) a i e in (r.0, first_true (stands i) (may_rise p s i) r.1)
 
-    risen_stands : (x : Bool) (i : ℕ) → (risen_over stands p s a x).holder ≡ At i → (i < a) × (stands i ≡ true)
+    risen_stands : (x : Bool) (i : ℕ) → (risen_over stands p s a x).holder ≡ Some i → (i < a) × (stands i ≡ true)
     unfolding risen_over
     risen_stands x i e =
         let r = best_eligible above (inf true) (λ k. stands k && (of_label x (positive s k) && may_rise p s k)) (rise p s) a i e in (r.0, first_true (stands i) _ r.1)
@@ -172,12 +167,12 @@ module _ (stands : ℕ → Bool) (p q : Problem) (s t : State) (A : Alike stands
     abbrev pub Stand : ℕ → ℕ → Type 0
     Stand i j = ((i < a) × (stands i ≡ true)) × ((j < a) × (stands j ≡ true))
 
-    pub pair_c_stands : (floor eps : Float) (i j : ℕ) → choice_c_over stands p s floor eps a ≡ Pair i j → Stand i j
+    pub pair_c_stands : (floor eps : Float) (i j : ℕ) → choice_c_over stands p s floor eps a ≡ Some (i, j) → Stand i j
     unfolding choice_c_over
     pair_c_stands floor eps i j e =
         pair_stands floor (λ x. (extremes_over stands p s a).gmax1) (λ x. (extremes_over stands p s a).gmax1) (λ x. refl) (λ x. gmax1_stands) (stop_c (extremes_over stands p s a) eps) i j e
 
-    pub pair_nu_stands : (floor eps : Float) (i j : ℕ) → choice_nu_over stands p s floor eps a ≡ Pair i j → Stand i j
+    pub pair_nu_stands : (floor eps : Float) (i j : ℕ) → choice_nu_over stands p s floor eps a ≡ Some (i, j) → Stand i j
     unfolding choice_nu_over
     pair_nu_stands floor eps i j e =
         pair_stands floor (risen_over stands p s a) (risen_over stands p s a) (λ x. refl) risen_stands (stop_nu (risen_over stands p s a) (fallen_over stands p s a) eps) i j e

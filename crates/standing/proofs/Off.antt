@@ -6,9 +6,8 @@ use mathlib.Core.Path.{◌≡◌, refl, sym, ap, ap₂, ◌∙◌}
 use native.Mathlib.Omega.{arith}
 use lib.Ieee.{Float}
 use lib.ListN.{length}
+use Rattle.std.specs.Prelude.{Option, Some, None}
 use Rattle.alpha.specs.Weight.{at_lower}
-use Rattle.extreme.specs.declared.Choice.{Choice}
-use Rattle.extreme.specs.declared.Choice.TheVariants.{Pair, Optimal}
 use Rattle.modes.specs.declared.Mode.{Mode}
 use Rattle.rounding.proofs.Nan.{nan_add}
 use Rattle.solver.specs.End.{trained}
@@ -55,7 +54,7 @@ module _ (stands : ℕ → Bool) (g : Given) (m : List ℕ) (off : g.shrinking �
   pub chosen_silent : (w : Full) → w.run.active ≡ g.n → Silent stands p w.state → chosen g m w ≡ chosen_over stands g m w.state
   unfolding chosen chosen_over
   chosen_silent w e S =
-      rw e (ap₂ (λ (x y : Choice). cond g.nu x y)
+      rw e (ap₂ (λ (x y : Option (ℕ × ℕ)). cond g.nu x y)
       (choice_nu_silent stands p w.state S g.n (omega arith) g.floor g.eps)
       (choice_c_silent stands p w.state S g.n (omega arith) g.floor g.eps))
 
@@ -103,10 +102,10 @@ module _ (stands : ℕ → Bool) (g : Given) (m : List ℕ) (off : g.shrinking �
           long = k.long;
         }
 
-    worked_goes : (w v : Full) (c : Choice) → chosen g m w ≡ c → chosen_over stands g m v.state ≡ c → Goes w v → Goes (worked_by g m b w c) (passed_on stands g m b v c)
+    worked_goes : (w v : Full) (c : Option (ℕ × ℕ)) → chosen g m w ≡ c → chosen_over stands g m v.state ≡ c → Goes w v → Goes (worked_by g m b w c) (passed_on stands g m b v c)
     unfolding worked_by passed_on looked
-    worked_goes w v (Pair i j) q r k = step_goes w v i j (chosen_stands stands g m m v.state v.state (alike_self stands p v.state) i j r) k
-    worked_goes w v Optimal q r k = rw (refreshed_off g m w k.kin.active, q) (ended_goes w v k)
+    worked_goes w v (Some (i, j)) q r k = step_goes w v i j (chosen_stands stands g m m v.state v.state (alike_self stands p v.state) i j r) k
+    worked_goes w v None q r k = rw (refreshed_off g m w k.kin.active, q) (ended_goes w v k)
 
     pass_goes : (w v : Full) → goes v.run.status ≡ true → Goes w v → Goes (passed g m b w) (passed_on stands g m b v (chosen_over stands g m v.state))
     unfolding passed onward

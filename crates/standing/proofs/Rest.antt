@@ -7,8 +7,7 @@ use native.Mathlib.Omega.{arith}
 use lib.Ieee.{Float, nan}
 use lib.ListN.{length, get_or}
 use lib.Seq.{get_or-set_other}
-use Rattle.extreme.specs.declared.Choice.{Choice}
-use Rattle.extreme.specs.declared.Choice.TheVariants.{Pair, Optimal}
+use Rattle.std.specs.Prelude.{Option, Some, None}
 use Rattle.solver.specs.Pass.{stepped}
 use Rattle.solver.specs.Run.{problem_of, Full, full, goes, ready_of}
 use Rattle.solver.specs.declared.Given.{Given}
@@ -57,9 +56,9 @@ module _ (stands : ℕ → Bool) (g : Given) (m : List ℕ) (b : List Float) whe
     pub gone : (k : ℕ) → k < g.n → stands k ≡ false → get_or w.state.floats (2 * g.n + k) nan ≡ get_or f (2 * g.n + k) nan
 
   module _ (f : List Float) (y : List ℕ) (room : 7 * g.n ≤ length f) where
-    passed_rests : (w : Full) (x : Choice) → chosen_over stands g m w.state ≡ x → Rests f y w → Rests f y (passed_on stands g m b w x)
+    passed_rests : (w : Full) (x : Option (ℕ × ℕ)) → chosen_over stands g m w.state ≡ x → Rests f y w → Rests f y (passed_on stands g m b w x)
     unfolding passed_on stepped
-    passed_rests w (Pair i j) e r =
+    passed_rests w (Some (i, j)) e r =
         let h = chosen_stands stands g m m w.state w.state (alike_self stands p w.state) i j e in
         let a = w.run.active in
         let q = r.active in
@@ -75,7 +74,7 @@ module _ (stands : ℕ → Bool) (g : Given) (m : List ℕ) (b : List Float) whe
               (λ e. true≢false (sym h.0.1 ∙ ap stands (sym e) ∙ z)) (λ e. true≢false (sym h.1.1 ∙ ap stands (sym e) ∙ z)))
               ∙ r.gone k l z;
         }
-    passed_rests w Optimal e r = record { floats = r.floats; labels = r.labels; active = r.active; gone = r.gone }
+    passed_rests w None e r = record { floats = r.floats; labels = r.labels; active = r.active; gone = r.gone }
 
     next_rests : (x : Bool) (w : Full) → Rests f y w → Rests f y (next_over stands g m b x w)
     unfolding next_over

@@ -10,8 +10,7 @@ use mathlib.Core.Logic.{◌⊎◌, inl, inr, ◌↔◌}
 use mathlib.Core.Path.{◌≡◌, refl, sym, ap, subst}
 use native.Mathlib.Omega.{arith}
 use lib.Ieee.{Float}
-use Rattle.extreme.specs.declared.Choice.{Choice}
-use Rattle.extreme.specs.declared.Choice.TheVariants.{Pair, Optimal}
+use Rattle.std.specs.Prelude.{Option, Some, None}
 use Rattle.solver.specs.Pass.{stepped}
 use Rattle.solver.specs.Run.{problem_of, Full, goes}
 use Rattle.solver.specs.declared.Given.{Given}
@@ -31,10 +30,10 @@ module _ (stands : ℕ → Bool) (g : Given) (m : List ℕ) where
       go true = refl
       go false = refl
 
-  pub over_words : (s : State) (i j : ℕ) → (chosen_over stands g m s ≡ Pair i j) ↔ ByRule stands g m s g.n i j
+  pub over_words : (s : State) (i j : ℕ) → (chosen_over stands g m s ≡ Some (i, j)) ↔ ByRule stands g m s g.n i j
   over_words s = by_words stands g m s g.n (chosen_over stands g m s) (chosen_is s)
 
-  pub over_none_words : (s : State) → (chosen_over stands g m s ≡ Optimal) ↔ NoPair stands g m s g.n
+  pub over_none_words : (s : State) → (chosen_over stands g m s ≡ None) ↔ NoPair stands g m s g.n
   over_none_words s = none_by_words stands g m s g.n (chosen_over stands g m s) (chosen_is s)
 
   module _ (b : List Float) where
@@ -42,10 +41,10 @@ module _ (stands : ℕ → Bool) (g : Given) (m : List ℕ) where
     abbrev pub Went : ℕ → ℕ → Full → Type 0
     Went i t v = ((v.run.status ≡ Going) × (v.run.iterations ≡ i + t)) ⊎ ((v.run.status ≡ Done) × (v.run.iterations < i + t) × NoPair stands g m v.state g.n)
 
-    pass_went : (i t : ℕ) (v : Full) (c : Choice) → chosen_over stands g m v.state ≡ c → v.run.status ≡ Going → v.run.iterations ≡ i + t → Went i (suc t) (passed_on stands g m b v c)
+    pass_went : (i t : ℕ) (v : Full) (c : Option (ℕ × ℕ)) → chosen_over stands g m v.state ≡ c → v.run.status ≡ Going → v.run.iterations ≡ i + t → Went i (suc t) (passed_on stands g m b v c)
     unfolding passed_on stepped
-    pass_went i t v (Pair h k) e s q = inl (s, omega arith)
-    pass_went i t v Optimal e s q = inr (refl, omega arith, (over_none_words v.state).0 e)
+    pass_went i t v (Some (h, k)) e s q = inl (s, omega arith)
+    pass_went i t v None e s q = inr (refl, omega arith, (over_none_words v.state).0 e)
 
     next_went : (i t : ℕ) (v : Full) → Went i t v → Went i (suc t) (next_over stands g m b (goes v.run.status) v)
     unfolding next_over goes

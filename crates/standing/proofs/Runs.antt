@@ -6,8 +6,7 @@ use mathlib.Core.Path.{◌≡◌, refl, sym, ap, ap₂, ◌∙◌}
 use native.Mathlib.Omega.{arith}
 use lib.Ieee.{Float}
 use lib.ListN.{length}
-use Rattle.extreme.specs.declared.Choice.{Choice}
-use Rattle.extreme.specs.declared.Choice.TheVariants.{Pair, Optimal}
+use Rattle.std.specs.Prelude.{Option, Some, None}
 use Rattle.solver.specs.Pass.{stepped}
 use Rattle.solver.specs.Run.{problem_of, Full, goes, advanced, ended}
 use Rattle.solver.specs.declared.Given.{Given}
@@ -27,16 +26,16 @@ module _ (stands : ℕ → Bool) (g : Given) (m m' : List ℕ) where
   pub chosen_alike : (s t : State) → A s t → chosen_over stands g m s ≡ chosen_over stands g m' t
   unfolding chosen_over
   chosen_alike s t a =
-      ap₂ (λ (x y : Choice). cond g.nu x y)
+      ap₂ (λ (x y : Option (ℕ × ℕ)). cond g.nu x y)
       (choice_nu_alike stands (problem_of g m) (problem_of g m') s t a g.n (omega arith) g.floor g.eps)
       (choice_c_alike stands (problem_of g m) (problem_of g m') s t a g.n (omega arith) g.floor g.eps)
 
-  pub chosen_stands : (s t : State) → A s t → (i j : ℕ) → chosen_over stands g m s ≡ Pair i j → ((i < g.n) × (stands i ≡ true)) × ((j < g.n) × (stands j ≡ true))
+  pub chosen_stands : (s t : State) → A s t → (i j : ℕ) → chosen_over stands g m s ≡ Some (i, j) → ((i < g.n) × (stands i ≡ true)) × ((j < g.n) × (stands j ≡ true))
   unfolding chosen_over
   chosen_stands s t a i j = go g.nu
     where
       go : (x : Bool)
-          → cond x (choice_nu_over stands (problem_of g m) s g.floor g.eps g.n) (choice_c_over stands (problem_of g m) s g.floor g.eps g.n) ≡ Pair i j
+          → cond x (choice_nu_over stands (problem_of g m) s g.floor g.eps g.n) (choice_c_over stands (problem_of g m) s g.floor g.eps g.n) ≡ Some (i, j)
           → ((i < g.n) × (stands i ≡ true)) × ((j < g.n) × (stands j ≡ true))
       go true e = pair_nu_stands stands (problem_of g m) (problem_of g m') s t a g.n (omega arith) g.floor g.eps i j e
       go false e = pair_c_stands stands (problem_of g m) (problem_of g m') s t a g.n (omega arith) g.floor g.eps i j e
@@ -66,10 +65,10 @@ module _ (stands : ℕ → Bool) (g : Given) (m m' : List ℕ) where
           long' = rw (length_updated (problem_of g m') c g.mode g.floor v.state i j v.run.active) r.long';
         }
 
-    pass_twins : (w v : Full) (x : Choice) → chosen_over stands g m w.state ≡ x → Twins w v → Twins (passed_on stands g m b w x) (passed_on stands g m' c v x)
+    pass_twins : (w v : Full) (x : Option (ℕ × ℕ)) → chosen_over stands g m w.state ≡ x → Twins w v → Twins (passed_on stands g m b w x) (passed_on stands g m' c v x)
     unfolding passed_on
-    pass_twins w v (Pair i j) e r = step_twins w v i j (chosen_stands w.state v.state r.alike i j e) r
-    pass_twins w v Optimal e r = record { run = ap ended r.run; active = r.active; order = r.order; alike = r.alike; long = r.long; long' = r.long' }
+    pass_twins w v (Some (i, j)) e r = step_twins w v i j (chosen_stands w.state v.state r.alike i j e) r
+    pass_twins w v None e r = record { run = ap ended r.run; active = r.active; order = r.order; alike = r.alike; long = r.long; long' = r.long' }
 
     next_twins : (x : Bool) (w v : Full) → Twins w v → Twins (next_over stands g m b x w) (next_over stands g m' c x v)
     unfolding next_over
@@ -85,10 +84,10 @@ module _ (stands : ℕ → Bool) (g : Given) (m m' : List ℕ) where
 
 -- nothing moves
 module _ (stands : ℕ → Bool) (g : Given) (m : List ℕ) (b : List Float) where
-  passed_order : (w : Full) (x : Choice) → (passed_on stands g m b w x).state.numbers ≡ w.state.numbers
+  passed_order : (w : Full) (x : Option (ℕ × ℕ)) → (passed_on stands g m b w x).state.numbers ≡ w.state.numbers
   unfolding passed_on stepped
-  passed_order w (Pair i j) = refl
-  passed_order w Optimal = refl
+  passed_order w (Some (i, j)) = refl
+  passed_order w None = refl
 
   next_order : (x : Bool) (w : Full) → (next_over stands g m b x w).state.numbers ≡ w.state.numbers
   unfolding next_over

@@ -6,8 +6,7 @@ use mathlib.Core.Path.{◌≡◌, refl, sym, ◌∙◌}
 use native.Mathlib.Omega.{arith}
 use lib.Ieee.{Float, nan}
 use lib.ListN.{length, get_or, length-append}
-use Rattle.extreme.specs.declared.Choice.{Choice}
-use Rattle.extreme.specs.declared.Choice.TheVariants.{Pair, Optimal}
+use Rattle.std.specs.Prelude.{Option, Some, None}
 use Rattle.readings.specs.Order.{weight_in}
 use Rattle.solver.specs.Pass.{stepped}
 use Rattle.solver.specs.Run.{problem_of, Full, goes}
@@ -37,14 +36,14 @@ module _ (stands : ℕ → Bool) (g : Given) (m : List ℕ) (b : List Float) whe
   -- ---- who steps, and how often
 
   -- both samples of a pair stand
-  pub pair_stands : (w : Full) (i j : ℕ) → chosen_over stands g m w.state ≡ Pair i j → ((i < g.n) × (stands i ≡ true)) × ((j < g.n) × (stands j ≡ true))
+  pub pair_stands : (w : Full) (i j : ℕ) → chosen_over stands g m w.state ≡ Some (i, j) → ((i < g.n) × (stands i ≡ true)) × ((j < g.n) × (stands j ≡ true))
   pair_stands w = chosen_stands stands g m m w.state w.state (alike_self stands p w.state)
 
   -- a pass counts the steps that it adds
-  pass_counts : (w : Full) (c : Choice) → (passed_on stands g m b w c).run.iterations ≡ w.run.iterations + length (steps_of g m (passed_on stands g m b w c) c)
+  pass_counts : (w : Full) (c : Option (ℕ × ℕ)) → (passed_on stands g m b w c).run.iterations ≡ w.run.iterations + length (steps_of g m (passed_on stands g m b w c) c)
   unfolding passed_on stepped steps_of
-  pass_counts w (Pair i j) = refl
-  pass_counts w Optimal = omega arith
+  pass_counts w (Some (i, j)) = refl
+  pass_counts w None = omega arith
 
   next_counts : (on : Bool) (w : Full) → (next_over stands g m b on w).run.iterations ≡ w.run.iterations + length (added_over stands g m b on w)
   unfolding next_over added_over
@@ -55,9 +54,9 @@ module _ (stands : ℕ → Bool) (g : Given) (m : List ℕ) (b : List Float) whe
   unfolding added_over steps_of
   added_few true w = go (chosen_over stands g m w.state)
     where
-      go : (c : Choice) → length (steps_of g m (passed_on stands g m b w c) c) ≤ 1
-      go (Pair i j) = omega arith
-      go Optimal = omega arith
+      go : (c : Option (ℕ × ℕ)) → length (steps_of g m (passed_on stands g m b w c) c) ≤ 1
+      go (Some (i, j)) = omega arith
+      go None = omega arith
   added_few false w = omega arith
 
   -- the iterations of the first t passes are their steps, at most t of them
@@ -83,17 +82,17 @@ module _ (stands : ℕ → Bool) (g : Given) (m : List ℕ) (b : List Float) whe
 
   -- ---- the weights: x is what each sample has
 
-  pass_tells : (x : ℕ → Float) (w : Full) (c : Choice) → chosen_over stands g m w.state ≡ c → All (Told p x) w
+  pass_tells : (x : ℕ → Float) (w : Full) (c : Option (ℕ × ℕ)) → chosen_over stands g m w.state ≡ c → All (Told p x) w
       → All (Told p (λ q. last_left (steps_of g m (passed_on stands g m b w c) c) q (x q))) (passed_on stands g m b w c)
   unfolding passed_on stepped steps_of last_left
-  pass_tells x w (Pair i j) e k =
+  pass_tells x w (Some (i, j)) e k =
       let h = pair_stands w i j e in
       let a = k.active in
       record {
         kept = told_step g m b x w.state (stepped g m b w i j) i j w.run.active (omega (arith, h.0.0)) (omega (arith, h.1.0)) (omega arith) refl k.kept;
         active = k.active;
       }
-  pass_tells x w Optimal e k = record { kept = k.kept; active = k.active }
+  pass_tells x w None e k = record { kept = k.kept; active = k.active }
 
   next_tells : (x : ℕ → Float) (on : Bool) (w : Full) → All (Told p x) w
       → All (Told p (λ q. last_left (added_over stands g m b on w) q (x q))) (next_over stands g m b on w)
@@ -126,12 +125,12 @@ module _ (stands : ℕ → Bool) (g : Given) (m : List ℕ) (b : List Float) whe
   -- ---- what each update keeps
 
   module _ (K : State → Type 0) (on_pair : (s : State) (i j : ℕ) → i < g.n → j < g.n → K s → K (updated_state p b g.mode g.floor s i j g.n)) where
-    pass_keeps : (w : Full) (c : Choice) → chosen_over stands g m w.state ≡ c → All K w → All K (passed_on stands g m b w c)
+    pass_keeps : (w : Full) (c : Option (ℕ × ℕ)) → chosen_over stands g m w.state ≡ c → All K w → All K (passed_on stands g m b w c)
     unfolding passed_on stepped
-    pass_keeps w (Pair i j) e k =
+    pass_keeps w (Some (i, j)) e k =
         let h = pair_stands w i j e in
         record { kept = rw k.active (on_pair w.state i j h.0.0 h.1.0 k.kept); active = k.active }
-    pass_keeps w Optimal e k = record { kept = k.kept; active = k.active }
+    pass_keeps w None e k = record { kept = k.kept; active = k.active }
 
     next_keeps : (on : Bool) (w : Full) → All K w → All K (next_over stands g m b on w)
     unfolding next_over

@@ -6,6 +6,7 @@ use native.Mathlib.Omega.{arith}
 use lib.Dec.{eqb}
 use lib.Ieee.{Float, nan, inf, binary64, of_bits, neg, lt}
 use lib.ListN.{get_or}
+use Rattle.std.specs.Prelude.{Option, Some, None, is_some}
 use Rattle.alpha.specs.Weight as Weight
 use Rattle.alpha.specs.Weight.{one, minus_one, at_upper, at_lower}
 use Rattle.alpha.specs.declared.Alpha.{Alpha}
@@ -13,14 +14,11 @@ use Rattle.choose_c.specs.Choice.{extremes_c, stop_c, choice_c}
 use Rattle.choose_c.specs.declared.Extremes.{Extremes}
 use Rattle.choose_nu.specs.Choice.{of_label, risen, fallen, stop_nu, choice_nu}
 use Rattle.extreme.specs.Best.{at_least, above, at_most, weighed, best}
-use Rattle.extreme.specs.declared.Choice.TheVariants.{Optimal}
 use Rattle.extreme.specs.declared.Extreme.{Extreme}
-use Rattle.extreme.specs.declared.Found.{Found}
-use Rattle.extreme.specs.declared.Found.TheVariants.{At, Nobody}
 use Rattle.extreme.proofs.Alike.{best_alike}
 use Rattle.floats.proofs.Laws.{max_nan, min_nan}
 use Rattle.partner.specs.Curvature.{gap_of}
-use Rattle.partner.specs.Second.{is_at, place_of, follows, gain_of, second, paired, paired_with, choice}
+use Rattle.partner.specs.Second.{place_of, follows, gain_of, second, paired, paired_with, choice}
 use Rattle.partner.specs.Sides.{rise_of, fall_of, may_rise, may_fall, rise, fall}
 use Rattle.rho.specs.Rho.{lb_raised, ub_lowered, ub_raised, ub_moved, signed, share_with_c, share_with_nu, joined_nu, positive_in, share_c, share_nu, middle, level_of, level_by}
 use Rattle.rho.specs.declared.Share.{Share}
@@ -74,7 +72,7 @@ module _ (stands : ℕ → Bool) (p : Problem) (s : State) (S : Silent stands p 
   never_follows : (lead : Bool → Extreme) (j : ℕ) → j < p.n → stands j ≡ false → follows p s lead j ≡ false
   never_follows lead j l h =
       let e = lead (positive s j) in
-      rw (S.gradients j l h, gap_nan (positive s j) e.value, lt_nan Weight.zero, shut (may_fall p s j), shut (is_at e.holder))
+      rw (S.gradients j l h, gap_nan (positive s j) e.value, lt_nan Weight.zero, shut (may_fall p s j), shut (is_some e.holder))
 
   module _ (a : ℕ) (l : a ≤ p.n) where
     pub extremes_silent : extremes_c p s a ≡ extremes_over stands p s a
@@ -109,7 +107,7 @@ module _ (stands : ℕ → Bool) (p : Problem) (s : State) (S : Silent stands p 
 
       choice_silent : (lead : Bool → Extreme) (stop : Bool) → choice p s floor lead stop a ≡ choice_over stands p s floor lead stop a
       unfolding choice choice_over
-      choice_silent lead stop = ap (λ (e : Extreme). cond stop Optimal (paired_with (λ j. (lead (positive s j)).holder) e.holder)) (second_silent lead)
+      choice_silent lead stop = ap (λ (e : Extreme). cond stop None (paired_with (λ j. (lead (positive s j)).holder) e.holder)) (second_silent lead)
 
       pub choice_c_silent : (eps : Float) → choice_c p s floor eps a ≡ choice_c_over stands p s floor eps a
       unfolding choice_c choice_c_over
@@ -125,7 +123,7 @@ module _ (stands : ℕ → Bool) (p : Problem) (s : State) (S : Silent stands p 
             best_alike at_most (inf false) (λ j. stands j && follows p s lead j) (λ j. stands j && follows p s lead' j) (gain_by lead) (gain_by lead') a
             (λ j c e. ap
             (λ (x : Extreme). weighed at_most
-            (stands j && (is_at x.holder && (may_fall p s j && lt Weight.zero (gap_of (positive s j) x.value (gradient p s j)))))
+            (stands j && (is_some x.holder && (may_fall p s j && lt Weight.zero (gap_of (positive s j) x.value (gradient p s j)))))
             j (gain_of p s floor x.value (place_of x.holder) j) e)
             (same (positive s j)))
 
@@ -136,9 +134,9 @@ module _ (stands : ℕ → Bool) (p : Problem) (s : State) (S : Silent stands p 
             go (second_over stands p s floor lead a).holder
             ∙ ap (λ (e : Extreme). paired_with (λ j. (lead' (positive s j)).holder) e.holder) second_leads
           where
-            go : (h : Found) → paired_with (λ j. (lead (positive s j)).holder) h ≡ paired_with (λ j. (lead' (positive s j)).holder) h
-            go (At j) = ap (λ (x : Extreme). paired x.holder j) (same (positive s j))
-            go Nobody = refl
+            go : (h : Option ℕ) → paired_with (λ j. (lead (positive s j)).holder) h ≡ paired_with (λ j. (lead' (positive s j)).holder) h
+            go (Some j) = ap (λ (x : Extreme). paired x.holder j) (same (positive s j))
+            go None = refl
 
       pub choice_nu_silent : (eps : Float) → choice_nu p s floor eps a ≡ choice_nu_over stands p s floor eps a
       unfolding choice_nu choice_nu_over

@@ -1,7 +1,5 @@
 -- A run with shrinking off over the positions that stand (the rule, section 'Retired samples'): nothing moves, and all n positions are active.
-use Rattle.std.specs.Prelude.{ℕ, zero, suc, Bool, true, false, cond, List, [], ◌++◌, Float}
-use Rattle.extreme.specs.declared.Choice.{Choice}
-use Rattle.extreme.specs.declared.Choice.TheVariants.{Pair, Optimal}
+use Rattle.std.specs.Prelude.{ℕ, zero, suc, Bool, true, false, cond, List, [], ◌++◌, Float, Option, Some, None}
 use Rattle.solver.specs.Pass.{stepped}
 use Rattle.solver.specs.Run.{problem_of, Full, with_run, goes, ended}
 use Rattle.solver.specs.declared.Given.{Given}
@@ -11,14 +9,14 @@ use Rattle.standing.specs.Over.{choice_c_over, choice_nu_over}
 
 module _ (stands : ℕ → Bool) (g : Given) (m : List ℕ) where
   -- the pair, by the rule that holds
-  unfoldable pub chosen_over : State → Choice
+  unfoldable pub chosen_over : State → Option (ℕ × ℕ)
   chosen_over s = cond g.nu (choice_nu_over stands (problem_of g m) s g.floor g.eps g.n) (choice_c_over stands (problem_of g m) s g.floor g.eps g.n)
 
   module _ (b : List Float) where
     -- one step, or the end
-    unfoldable pub passed_on : Full → Choice → Full
-    passed_on w (Pair i j) = stepped g m b w i j
-    passed_on w Optimal = with_run w (ended w.run)
+    unfoldable pub passed_on : Full → Option (ℕ × ℕ) → Full
+    passed_on w (Some (i, j)) = stepped g m b w i j
+    passed_on w None = with_run w (ended w.run)
 
     unfoldable pub next_over : Bool → Full → Full
     next_over goes w = cond goes (passed_on w (chosen_over w.state)) w

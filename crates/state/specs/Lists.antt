@@ -3,6 +3,7 @@ use Rattle.std.specs.Prelude.{ℕ, ◌*◌, ◌≤◌, List, Float, length}
 use Rattle.kernel.specs.Matrix.{Matrix}
 use Rattle.kernel.specs.Row.{Indexed}
 use Rattle.kernel.specs.declared.Kind.{Kind}
+use Rattle.kernel.specs.declared.Problem.{Problem as Given}
 
 -- n positions over a matrix of side·side entries
 pub record Problem : Type 0 where
@@ -13,6 +14,10 @@ pub record Problem : Type 0 where
 
 abbrev pub problem : ℕ → ℕ → Kind → List ℕ → Problem
 problem n side kind m = record { n = n; side = side; kind = kind; matrix = m }
+
+-- as the code holds it
+abbrev pub given : Given → Problem
+given p = problem p.n p.side p.kind p.matrix.now
 
 pub record State : Type 0 where
   pub floats : List Float

@@ -18,7 +18,6 @@ use Rattle.classification.specs.Entries.{fitted}
 use Rattle.fits.specs.Starts.{nothing, evenly, all_positive, costs_to, half, shared_to, one_class_to}
 use Rattle.fits.proofs.Starts.{nothing_at, evenly_at, positive_at, cost_at}
 use Rattle.judge.specs.Judge.{first, label_good, is_ceiling}
-use Rattle.judge.specs.declared.Judged.TheVariants.{Fine}
 use Rattle.judge.proofs.Accepted.{label_within, cost_within}
 use Rattle.judge.proofs.First.{first_fine}
 use Rattle.kernel.specs.declared.Kind.{Kind}
@@ -31,6 +30,8 @@ use Rattle.solver.specs.declared.Given.{Given}
 use Rattle.still.specs.Answered.{Answers}
 use Rattle.still.specs.Fits.{still_c, still_nu, still_one_class}
 use Rattle.still.proofs.Fitted.{ByLabel, fitted_still_law}
+use Rattle.std.specs.Prelude.{Ok}
+use Rattle.judge.specs.declared.Refusal.TheVariants.{Label}
 
 one_above : lt Weight.zero one ≡ true
 unfolding lt of_bits
@@ -45,13 +46,13 @@ one_or_zero zero h = inr refl
 one_or_zero (suc zero) h = inl refl
 one_or_zero (suc (suc a)) h = let z : ⊥ = omega arith in absurd z
 
-two_labels : (kind : Kind) (l : List ℕ) (n : ℕ) → kind ≡ TwoClass → first 4 (label_good l) n 0 ≡ Fine → (k : ℕ) → k < n → Labelled kind (get_or l k 0)
-two_labels kind l n e h k K = rw e (one_or_zero (get_or l k 0) (label_within l k (first_fine 4 (label_good l) n 0 h k (omega arith) (omega arith))))
+two_labels : (kind : Kind) (l : List ℕ) (n : ℕ) → kind ≡ TwoClass → first Label (label_good l) n 0 ≡ Ok tt → (k : ℕ) → k < n → Labelled kind (get_or l k 0)
+two_labels kind l n e h k K = rw e (one_or_zero (get_or l k 0) (label_within l k (first_fine Label (label_good l) n 0 h k (omega arith) (omega arith))))
 
 -- ---- what each fit lends, by label
 
 module _ (g : Given) (most : g.n ≤ 512) where
-  module _ (l : List ℕ) (two : g.kind ≡ TwoClass) (labels : first 4 (label_good l) g.n 0 ≡ Fine) where
+  module _ (l : List ℕ) (two : g.kind ≡ TwoClass) (labels : first Label (label_good l) g.n 0 ≡ Ok tt) where
     pub c_lent : (cpos cneg : Float) → is_ceiling cpos ≡ true → is_ceiling cneg ≡ true
         → ByLabel g l (costs_to cpos cneg l nothing g.n) (evenly minus_one g.n) (ceilings_of cpos cneg) (λ k. minus_one)
     c_lent cpos cneg up un = record {
@@ -88,7 +89,7 @@ module _ (g : Given) (most : g.n ≤ 512) where
 
 module _ (g : Given) (m : List ℕ) (budget : ℕ) (d : Lent) (f : List Float) (off : g.shrinking ≡ false) (square : g.side ≡ g.n) (most : g.n ≤ 512)
     (lf : 7 * g.n ≤ length d.floats) (lu : 2 * g.n ≤ length d.numbers) (ly : g.n ≤ length d.bytes) (room : sized g.nu g.n ≤ length f) where
-  module _ (l : List ℕ) (two : g.kind ≡ TwoClass) (labels : first 4 (label_good l) g.n 0 ≡ Fine) where
+  module _ (l : List ℕ) (two : g.kind ≡ TwoClass) (labels : first Label (label_good l) g.n 0 ≡ Ok tt) where
     pub c_still : (cpos cneg : Float) → is_ceiling cpos ≡ true → is_ceiling cneg ≡ true
         → Answers (fitted g Signed m l (costs_to cpos cneg l nothing g.n) nothing (evenly minus_one g.n) budget d) (still_c g m l cpos cneg budget f) d
     c_still cpos cneg up un =

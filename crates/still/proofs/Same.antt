@@ -14,23 +14,22 @@ use lib.Ieee.{Float, nan}
 use lib.ListN.{length, get_or}
 use Rattle.answer.specs.Lent.{Lent, Whole}
 use Rattle.answer.specs.declared.Finish.{Finish}
-use Rattle.classification.specs.Entries.{decided, entered, sizes_of, fit_c_tuned_sized, fit_c_tuned, fit_nu_tuned_sized, fit_nu_tuned, fit_one_class_tuned_sized, fit_one_class_tuned}
-use Rattle.classification.proofs.Accepts.{refused_apart}
+use Rattle.classification.specs.Entries.{decided, sizes_of, fit_c_tuned_sized, fit_c_tuned, fit_nu_tuned_sized, fit_nu_tuned, fit_one_class_tuned_sized, fit_one_class_tuned}
 use Rattle.judge.specs.Judge.{and_then, floor_judged}
 use Rattle.judge.specs.Sizes.{Room}
-use Rattle.judge.specs.declared.Judged.{Judged}
-use Rattle.judge.specs.declared.Judged.TheVariants.{Fine, Bad}
 use Rattle.judge.proofs.Accepted.{floor_fine, c_fine, nu_fine}
 use Rattle.judge.proofs.Lengths.{room_of}
 use Rattle.orderless.specs.Sheet.{sized}
 use Rattle.solver.specs.declared.Given.{Given}
 use Rattle.tuning.specs.declared.Tuning.{Tuning}
 use Rattle.still.specs.Answered.{Answers, fitted_still}
-use Rattle.still.specs.Entries.{StillLent, StillWhole, still_left, still_sizes, StillRoom, still_judged, still_decided, still_entered, still_c_tuned_sized, still_c_tuned, still_nu_tuned_sized, still_nu_tuned, still_one_class_tuned_sized, still_one_class_tuned}
+use Rattle.still.specs.Entries.{StillLent, StillWhole, still_left, still_sizes, StillRoom, still_judged, still_decided, still_c_tuned_sized, still_c_tuned, still_nu_tuned_sized, still_nu_tuned, still_one_class_tuned_sized, still_one_class_tuned}
 use Rattle.still.proofs.Fitted.{out_alike, result_alike}
 use Rattle.still.proofs.Fits.{c_still, nu_still, one_class_still}
 use Rattle.still.specs.Same.{Same}
 use Rattle.still.proofs.Sizes.{room_still}
+use Rattle.std.specs.Prelude.{⊤, Result, Ok, Err}
+use Rattle.judge.specs.declared.Refusal.{Refusal}
 
 fit_same : (g : Given) (how : Finish) (m l : List ℕ) (top : Bool → Float) (term : ℕ → Float) (a : List Float) (budget : ℕ) (d : Lent) (e : StillLent) (w : Whole)
     → Answers w (fitted_still g how m l top term a budget e.floats) d → g.n ≤ length d.home → g.n ≤ length e.result
@@ -44,22 +43,22 @@ fit_same g how m l top term a budget d e w A long long' = record {
 }
 
 -- with shrinking off nothing is refused by 13
-off : (j : Judged) → and_then j Fine ≡ j
+off : (j : Result ⊤ Refusal) → and_then j (Ok tt) ≡ j
 unfolding and_then
-off Fine = refl
-off (Bad number index) = refl
+off (Ok x) = refl
+off (Err refusal) = refl
 
 module _ (n : ℕ) (d : Lent) (e : StillLent) (w : Whole) (v : StillWhole) where
-  decided_same : (j : Judged) → (j ≡ Fine → Same n d e w v) → Same n d e (decided j w d) (still_decided j v e)
+  decided_same : (j : Result ⊤ Refusal) → (j ≡ Ok tt → Same n d e w v) → Same n d e (decided j w d) (still_decided j v e)
   unfolding decided still_decided
-  decided_same Fine s = s refl
-  decided_same (Bad number index) s = record { out = refl; places = λ x X. absurd (refused_apart number index x X); lists = λ q. q; crates = λ q. q }
+  decided_same (Ok p) s = s refl
+  decided_same (Err refusal) s = record { out = refl; places = λ x X. let z : ⊥ = cc in absurd z; lists = λ q. q; crates = λ q. q }
 
-  judged_same : (x : Float) (j : Judged) → (j ≡ Fine → Same n d e w v) → Same n d e (decided (floor_judged x j) w d) (still_decided (still_judged x false j) v e)
+  judged_same : (x : Float) (j : Result ⊤ Refusal) → (j ≡ Ok tt → Same n d e w v) → Same n d e (decided (floor_judged x j) w d) (still_decided (still_judged x false j) v e)
   judged_same x j s = rw (off (floor_judged x j)) (decided_same (floor_judged x j) (λ h. s (floor_fine x j h).0))
 
-  entered_same : (a b : ℕ) → a ≡ 0 → b ≡ 0 → Same n d e w v → Same n d e (entered a w d) (still_entered b v e)
-  unfolding entered still_entered
+  entered_same : (a b : Result ⊤ Refusal) → a ≡ Ok tt → b ≡ Ok tt → Same n d e w v → Same n d e (decided a w d) (still_decided b v e)
+  unfolding decided still_decided
   entered_same a b p q s = rw (p, q) s
 
 pub room_nu : (nu : Bool) (n f : ℕ) → 5 * n ≤ f → sized nu n ≤ f
@@ -91,7 +90,7 @@ module _ (t : Tuning) (n : ℕ) (m : List ℕ) (eps : Float) (budget : ℕ) (d :
 -- ---- the entries
 
 module _ (t : Tuning) (n : ℕ) (m l : List ℕ) (eps : Float) (budget : ℕ) (d : Lent) (e : StillLent)
-    (fits : sizes_of n (eqb (length l) n) m d ≡ 0) (suffices : still_sizes n (eqb (length l) n) m e ≡ 0) where
+    (fits : sizes_of n (eqb (length l) n) m d ≡ Ok tt) (suffices : still_sizes n (eqb (length l) n) m e ≡ Ok tt) where
   pub c_same : (cpos cneg : Float) → Same n d e (fit_c_tuned t n m l cpos cneg eps false budget d) (still_c_tuned t n m l cpos cneg eps false budget e)
   unfolding fit_c_tuned still_c_tuned
   c_same cpos cneg =
@@ -101,7 +100,7 @@ module _ (t : Tuning) (n : ℕ) (m l : List ℕ) (eps : Float) (budget : ℕ) (d
   unfolding fit_nu_tuned still_nu_tuned
   nu_same nu = entered_same n d e _ _ _ _ fits suffices (nu_sized_same t n m eps budget d e (room_of _ _ _ _ _ _ _ _ fits) (room_still _ _ _ _ _ _ suffices) l nu)
 
-module _ (t : Tuning) (n : ℕ) (m : List ℕ) (eps : Float) (budget : ℕ) (d : Lent) (e : StillLent) (fits : sizes_of n true m d ≡ 0) (suffices : still_sizes n true m e ≡ 0) where
+module _ (t : Tuning) (n : ℕ) (m : List ℕ) (eps : Float) (budget : ℕ) (d : Lent) (e : StillLent) (fits : sizes_of n true m d ≡ Ok tt) (suffices : still_sizes n true m e ≡ Ok tt) where
   pub one_class_same : (nu : Float) → Same n d e (fit_one_class_tuned t n m nu eps false budget d) (still_one_class_tuned t n m nu eps false budget e)
   unfolding fit_one_class_tuned still_one_class_tuned
   one_class_same nu =

@@ -1,23 +1,19 @@
 -- What right sizes give to an entry without an order table. Assumes nothing.
 use Prim.Native.Nat.{ℕ, ◌*◌}
-use mathlib.Core.Bool.{Bool, true, false, ◌&&◌, cond}
-use mathlib.Core.Path.{◌≡◌, refl}
-use native.Mathlib.Omega.{arith}
+use mathlib.Core.Bool.{Bool, true, ◌&&◌}
+use mathlib.Core.Path.{◌≡◌}
 use borrow.Author.Tests.{ltb-true, leb-true, eqb-true}
 use lib.Dec.{ltb, leb, eqb}
+use Rattle.judge.proofs.Lengths.{fine}
 use Rattle.judge.specs.Sizes.{count_good}
 use Rattle.rounding.proofs.Order.{both}
 use Rattle.still.specs.Entries.{still_room_good, still_sizes_by, StillRoom}
+use Rattle.std.specs.Prelude.{Ok}
 
-nought : (a b : Bool) → ◌≡◌ {A = ℕ} (cond a (cond b 0 2) 1) 0 → (a ≡ true) × (b ≡ true)
-nought true true h = (refl, refl)
-nought true false h = let z : ⊥ = omega arith in absurd z
-nought false b h = let z : ⊥ = omega arith in absurd z
-
-module _ (n : ℕ) (inputs : Bool) (m r f y : ℕ) (h : still_sizes_by n inputs m r f y ≡ 0) where
+module _ (n : ℕ) (inputs : Bool) (m r f y : ℕ) (h : still_sizes_by n inputs m r f y ≡ Ok tt) where
   answers : (count_good n ≡ true) × ((inputs && still_room_good n m r f y) ≡ true)
   unfolding still_sizes_by
-  answers = nought (count_good n) (inputs && still_room_good n m r f y) h
+  answers = fine (count_good n) (inputs && still_room_good n m r f y) h
 
   pub inputs_still : inputs ≡ true
   inputs_still = (both inputs (still_room_good n m r f y) answers.1).0

@@ -1,21 +1,20 @@
 -- What a training without an order table answers (the rule, section 'Without an order table'). It has one reading: nothing moves, so the two are the same.
-use Rattle.std.specs.Prelude.{ℕ, zero, suc, ◌+◌, Bool, List, ◌≡◌, Float, get_or, set}
+use Rattle.std.specs.Prelude.{ℕ, zero, suc, ◌+◌, Bool, List, ◌≡◌, Float, get_or, set, Result, Ok}
 use Rattle.std.specs.Float.{nan}
 use Rattle.answer.specs.Answer.{finished_to, support_of, rho_of, obj_of, ratio_of, reason_of}
 use Rattle.answer.specs.Lent.{Lent, Whole}
 use Rattle.answer.specs.declared.Answer.{Answer}
 use Rattle.answer.specs.declared.Finish.{Finish}
-use Rattle.answer.specs.declared.Outcome.{Outcome}
-use Rattle.answer.specs.declared.Outcome.TheVariants.{Accepted}
 use Rattle.orderless.specs.End.{level_in, objective_in}
 use Rattle.orderless.specs.Run.{spread, Course, orderless}
 use Rattle.orderless.specs.Sheet.{Sheet, read_in}
 use Rattle.rho.specs.declared.Level.{Level}
 use Rattle.solver.specs.declared.Given.{Given}
+use Rattle.judge.specs.declared.Refusal.{Refusal}
 
 -- an outcome, with what the result list holds then
 pub record Reply : Type 0 where
-  pub out : Outcome
+  pub out : Result Answer Refusal
   pub result : List Float
 
 -- w is a fit of the rule over the lists d, and t says what the other replies with a result list
@@ -51,7 +50,7 @@ module _ (g : Given) (how : Finish) (m l : List ℕ) (top : Bool → Float) (ter
       let o = read_in g.nu g.n c.floats in
       let v = level_in g m l top o in
       let result = result_of o v h in
-      record { out = Accepted (answer_in budget c.steps o v result); result = result }
+      record { out = Ok (answer_in budget c.steps o v result); result = result }
 
   -- start weights a, scratch f, result list h
   unfoldable pub fitted_still : List Float → ℕ → List Float → List Float → Reply

@@ -1,18 +1,17 @@
 -- The entries without an order table: refusals, else the fit and its answer (the rule, sections 'What a caller lends and gets' and 'Without an order table').
-use Rattle.std.specs.Prelude.{ℕ, ◌*◌, ◌≤◌, Bool, true, false, not, ◌&&◌, cond, List, ◌≡◌, leb, eqb, Float, length}
+use Rattle.std.specs.Prelude.{ℕ, ◌*◌, ◌≤◌, Bool, true, false, not, ◌&&◌, cond, List, ◌≡◌, leb, eqb, Float, length, ⊤, Result, Ok, Err}
 use Rattle.alpha.specs.Weight as Weight
-use Rattle.answer.specs.declared.Outcome.{Outcome}
-use Rattle.answer.specs.declared.Outcome.TheVariants.{Refused}
 use Rattle.classification.specs.Entries.{given_by}
 use Rattle.judge.specs.Judge.{need, and_then, c_judged, nu_judged, one_class_judged, floor_judged}
 use Rattle.judge.specs.Sizes.{count_good}
-use Rattle.judge.specs.declared.Judged.{Judged}
-use Rattle.judge.specs.declared.Judged.TheVariants.{Fine, Bad}
 use Rattle.kernel.specs.declared.Kind.TheVariants.{TwoClass, OneClass}
 use Rattle.lists.specs.Filled.{filled_to}
 use Rattle.tuning.specs.declared.Tuning.{Tuning}
 use Rattle.still.specs.Answered.{Reply}
 use Rattle.still.specs.Fits.{still_c, still_nu, still_one_class}
+use Rattle.answer.specs.declared.Answer.{Answer}
+use Rattle.judge.specs.declared.Refusal.{Refusal}
+use Rattle.judge.specs.declared.Refusal.TheVariants.{Samples, Length, RetiredShrinking}
 
 -- ---- what is lent to be written
 
@@ -26,13 +25,13 @@ still_lent h f y = record { result = h; floats = f; bytes = y }
 
 -- an outcome, with what the lists hold then
 pub record StillWhole : Type 0 where
-  pub out : Outcome
+  pub out : Result Answer Refusal
   pub left : StillLent
 
-abbrev pub still_whole : Outcome → List Float → List Float → List ℕ → StillWhole
+abbrev pub still_whole : Result Answer Refusal → List Float → List Float → List ℕ → StillWhole
 still_whole o h f y = record { out = o; left = still_lent h f y }
 
-abbrev pub still_untouched : Outcome → StillLent → StillWhole
+abbrev pub still_untouched : Result Answer Refusal → StillLent → StillWhole
 still_untouched o e = record { out = o; left = e }
 
 -- ---- the parts that the entries share
@@ -45,14 +44,14 @@ still_left n r e = still_whole r.out r.result (filled_to Weight.zero e.floats (5
 abbrev pub still_room_good : ℕ → ℕ → ℕ → ℕ → ℕ → Bool
 still_room_good n m h f y = eqb m (8 * (n * n)) && leb n h && leb (5 * n) f && leb n y
 
--- 0, or the refusal's number; `inputs` says whether every other input list has n places
-unfoldable pub still_sizes_by : ℕ → Bool → ℕ → ℕ → ℕ → ℕ → ℕ
-still_sizes_by n inputs m h f y = cond (count_good n) (cond (inputs && still_room_good n m h f y) 0 2) 1
+-- `inputs` says whether every other input list has n places
+unfoldable pub still_sizes_by : ℕ → Bool → ℕ → ℕ → ℕ → ℕ → Result ⊤ Refusal
+still_sizes_by n inputs m h f y = cond (count_good n) (cond (inputs && still_room_good n m h f y) (Ok tt) (Err Length)) (Err Samples)
 
-abbrev pub still_sizes : ℕ → Bool → List ℕ → StillLent → ℕ
+abbrev pub still_sizes : ℕ → Bool → List ℕ → StillLent → Result ⊤ Refusal
 still_sizes n inputs m e = still_sizes_by n inputs (length m) (length e.result) (length e.floats) (length e.bytes)
 
--- what a 0 says of the lengths
+-- what an Ok says of the lengths
 pub record StillRoom (n m h f y : ℕ) : Type 0 where
   pub some : 1 ≤ n
   pub most : n ≤ 512
@@ -62,17 +61,13 @@ pub record StillRoom (n m h f y : ℕ) : Type 0 where
   pub bytes : n ≤ y
 
 -- 14 and 13, behind all that an entry without a tuning judges: x is the floor, j its verdict
-abbrev pub still_judged : Float → Bool → Judged → Judged
-still_judged x shrinking j = and_then (floor_judged x j) (need 13 (not shrinking))
+abbrev pub still_judged : Float → Bool → Result ⊤ Refusal → Result ⊤ Refusal
+still_judged x shrinking j = and_then (floor_judged x j) (need RetiredShrinking (not shrinking))
 
--- refusals 3 to 10, 13 and 14
-unfoldable pub still_decided : Judged → StillWhole → StillLent → StillWhole
-still_decided Fine w e = w
-still_decided (Bad number index) w e = still_untouched (Refused number index) e
-
--- refusals 1 and 2
-unfoldable pub still_entered : ℕ → StillWhole → StillLent → StillWhole
-still_entered number w e = cond (eqb number 0) w (still_untouched (Refused number 0) e)
+-- what is refused before the run leaves e as it was
+unfoldable pub still_decided : Result ⊤ Refusal → StillWhole → StillLent → StillWhole
+still_decided (Ok x) w e = w
+still_decided (Err refusal) w e = still_untouched (Err refusal) e
 
 -- ---- the entries, under a tuning t; what follows the sizes stands by itself
 
@@ -85,7 +80,7 @@ still_c_tuned_sized t n m l cpos cneg eps shrinking budget e =
 
 unfoldable pub still_c_tuned : Tuning → ℕ → List ℕ → List ℕ → Float → Float → Float → Bool → ℕ → StillLent → StillWhole
 still_c_tuned t n m l cpos cneg eps shrinking budget e =
-    still_entered (still_sizes n (eqb (length l) n) m e) (still_c_tuned_sized t n m l cpos cneg eps shrinking budget e) e
+    still_decided (still_sizes n (eqb (length l) n) m e) (still_c_tuned_sized t n m l cpos cneg eps shrinking budget e) e
 
 unfoldable pub still_nu_tuned_sized : Tuning → ℕ → List ℕ → List ℕ → Float → Float → Bool → ℕ → StillLent → StillWhole
 still_nu_tuned_sized t n m l nu eps shrinking budget e =
@@ -96,7 +91,7 @@ still_nu_tuned_sized t n m l nu eps shrinking budget e =
 
 unfoldable pub still_nu_tuned : Tuning → ℕ → List ℕ → List ℕ → Float → Float → Bool → ℕ → StillLent → StillWhole
 still_nu_tuned t n m l nu eps shrinking budget e =
-    still_entered (still_sizes n (eqb (length l) n) m e) (still_nu_tuned_sized t n m l nu eps shrinking budget e) e
+    still_decided (still_sizes n (eqb (length l) n) m e) (still_nu_tuned_sized t n m l nu eps shrinking budget e) e
 
 unfoldable pub still_one_class_tuned_sized : Tuning → ℕ → List ℕ → Float → Float → Bool → ℕ → StillLent → StillWhole
 still_one_class_tuned_sized t n m nu eps shrinking budget e =
@@ -106,4 +101,4 @@ still_one_class_tuned_sized t n m nu eps shrinking budget e =
     e
 
 unfoldable pub still_one_class_tuned : Tuning → ℕ → List ℕ → Float → Float → Bool → ℕ → StillLent → StillWhole
-still_one_class_tuned t n m nu eps shrinking budget e = still_entered (still_sizes n true m e) (still_one_class_tuned_sized t n m nu eps shrinking budget e) e
+still_one_class_tuned t n m nu eps shrinking budget e = still_decided (still_sizes n true m e) (still_one_class_tuned_sized t n m nu eps shrinking budget e) e

@@ -11,7 +11,7 @@ use Rattle.still_nu.proofs.still_nu_tuned.Reads as reads
 
 -- what a call answers and leaves
 abbrev left : (κs : Lfts 5) → ResD signature κs → AtExit (ended_of 5 kinds.ps kinds.r) κs → StillWhole
-left κs r s = still_whole r s.1.1.1.1.1.1.1.1.0.now s.1.1.1.1.1.1.1.1.1.0.now s.1.1.1.1.1.1.1.1.1.1.0.now
+left κs r s = still_whole r s.1.1.1.1.1.1.0.now s.1.1.1.1.1.1.1.0.now s.1.1.1.1.1.1.1.1.0.now
 
 pub still_nu_once : (κs : Lfts 5) (a : ArgsD signature κs) (r r' : ResD signature κs) (s s' : AtExit (ended_of 5 kinds.ps kinds.r) κs)
     → reads.Post κs a r s → reads.Post κs a r' s' → ◌≡◌ {A = StillWhole} (left κs r s) (left κs r' s')

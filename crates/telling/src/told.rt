@@ -1,121 +1,115 @@
 // An outcome in words, with its floats as patterns.
-use answer::Outcome;
+ghost use Rattle.std.specs.Prelude.{◌≡◌};
+ghost use Rattle.std.specs.Float.{binary64};
+ghost use Rattle.std.specs.Float.Ieee.{to_bits};
+
+use answer::{Answer, ExitReason};
+use judge::Refusal;
 use readings::Reading;
+use std::fmt;
 
-fn text(s: &[u8]) {
-    io::write_all(1, s);
-}
+// A float's pattern, and the value in decimal too where it is one that the worked runs name.
+#[derive(Clone, Copy)]
+pub struct Pattern(pub u64);
 
-fn other(w: u64) {
-    match w {
-        0x3fe0_0000_0000_0000 => {
-            text(b"  0.5\n");
-        }
-        0xbfe0_0000_0000_0000 => {
-            text(b"  -0.5\n");
-        }
-        0xbfe8_0000_0000_0000 => {
-            text(b"  -0.75\n");
-        }
-        0x7ff8_0000_0000_0000 => {
-            text(b"  NaN\n");
-        }
-        0xfff0_0000_0000_0000 => {
-            text(b"  -infinity\n");
-        }
-        0x7ff0_0000_0000_0000 => {
-            text(b"  infinity\n");
-        }
-        0x4059_0000_0000_0000 => {
-            text(b"  100\n");
-        }
-        0xc070_0000_0000_0000 => {
-            text(b"  -256\n");
-        }
-        _ => {
-            text(b"\n");
+impl Pattern {
+    fn name(self) -> Option<&'static str> {
+        match self.0 {
+            0 => Some("0"),
+            0x8000_0000_0000_0000 => Some("-0"),
+            0x3ff0_0000_0000_0000 => Some("1"),
+            0xbff0_0000_0000_0000 => Some("-1"),
+            0x3fe0_0000_0000_0000 => Some("0.5"),
+            0xbfe0_0000_0000_0000 => Some("-0.5"),
+            0xbfe8_0000_0000_0000 => Some("-0.75"),
+            0x7ff8_0000_0000_0000 => Some("NaN"),
+            0xfff0_0000_0000_0000 => Some("-infinity"),
+            0x7ff0_0000_0000_0000 => Some("infinity"),
+            0x4059_0000_0000_0000 => Some("100"),
+            0xc070_0000_0000_0000 => Some("-256"),
+            _ => None,
         }
     }
 }
 
-// A pattern, and in decimal too where the value is one that the worked runs name.
-fn pattern(w: u64) {
-    io::print_hex(1, w, 16);
-    match w {
-        0 => {
-            text(b"  0\n");
+impl From<f64> for Pattern {
+    ghost from_gives = { λ x pattern. pattern.0 ≡ to_bits binary64 x };
+
+    fn from(x: f64) -> Pattern {
+        Pattern(wire::pattern_of(x))
+    }
+}
+
+impl fmt::Display for Pattern {
+    fn fmt<W: fmt::Write>(&self, f: &mut fmt::Formatter<W>) -> fmt::Result {
+        write!(f, "{:016x}", self.0)?;
+        match self.name() {
+            Some(name) => write!(f, "  {name}"),
+            None => Ok(()),
         }
-        0x8000_0000_0000_0000 => {
-            text(b"  -0\n");
+    }
+}
+
+// The outcome of a run over n samples, and the two readings that it left.
+#[derive(Clone, Copy)]
+pub struct Told<'a> {
+    pub outcome: Result<Answer, Refusal>,
+    pub crate_reading: &'a [f64],
+    pub home: &'a [f64],
+    pub n: usize,
+}
+
+impl<'a> Told<'a> {
+    // The coefficients where there are few.
+    fn coefficients<W: fmt::Write>(
+        &self,
+        f: &mut fmt::Formatter<W>,
+        name: &str,
+        which: Reading,
+    ) -> fmt::Result {
+        let part = readings::shown(self.crate_reading, self.home, which, self.n);
+        if part.len() > 8 {
+            return Ok(());
         }
-        0x3ff0_0000_0000_0000 => {
-            text(b"  1\n");
+        for x in part {
+            let coefficient = Pattern::from(*x);
+            writeln!(f, "  {name:12}{coefficient}")?;
         }
-        0xbff0_0000_0000_0000 => {
-            text(b"  -1\n");
+        Ok(())
+    }
+}
+
+fn reason_name(reason: ExitReason) -> &'static str {
+    match reason {
+        ExitReason::ReachedThreshold => "threshold",
+        ExitReason::ReachedIterations => "iterations",
+    }
+}
+
+impl<'a> Told<'a> {
+    fn accepted<W: fmt::Write>(&self, f: &mut fmt::Formatter<W>, answer: Answer) -> fmt::Result {
+        writeln!(f, "  accepted\n  rho         {}", Pattern::from(answer.rho))?;
+        match answer.r {
+            Some(r) => writeln!(f, "  r           {}", Pattern::from(r))?,
+            None => writeln!(f, "  r           absent")?,
         }
-        _ => other(w),
+        writeln!(f, "  obj         {}", Pattern::from(answer.obj))?;
+        writeln!(f, "  iterations  {}", answer.iterations)?;
+        writeln!(f, "  reason      {}", reason_name(answer.exit_reason))?;
+        writeln!(f, "  support     {}", answer.support)?;
+        self.coefficients(f, "crate", Reading::Crate)?;
+        self.coefficients(f, "home", Reading::Home)
     }
 }
 
-fn float(x: f64) {
-    pattern(wire::pattern_of(x));
-}
-
-fn number_line(name: &[u8], n: u64) {
-    text(name);
-    io::print_decimal(1, n);
-    text(b"\n");
-}
-
-fn ratio(there: u64, w: u64) {
-    text(b"  r           ");
-    if there == 0 {
-        text(b"absent\n");
-        return;
+impl<'a> fmt::Display for Told<'a> {
+    fn fmt<W: fmt::Write>(&self, f: &mut fmt::Formatter<W>) -> fmt::Result {
+        match self.outcome {
+            Ok(answer) => self.accepted(f, answer),
+            Err(refusal) => {
+                writeln!(f, "  refusal     {}", refusal.number())?;
+                writeln!(f, "  index       {}", refusal.index())
+            }
+        }
     }
-    pattern(w);
-}
-
-fn reason(w: u64) {
-    if w == 0 {
-        text(b"  reason      threshold\n");
-        return;
-    }
-    text(b"  reason      iterations\n");
-}
-
-fn accepted(w: [u64; 9]) {
-    text(b"  accepted\n  rho         ");
-    pattern(w[2]);
-    ratio(w[3], w[4]);
-    text(b"  obj         ");
-    pattern(w[5]);
-    number_line(b"  iterations  ", w[6]);
-    reason(w[7]);
-    number_line(b"  support     ", w[8]);
-}
-
-fn coefficients(name: &[u8], part: &[f64]) {
-    if part.len() > 8 {
-        return;
-    }
-    for k in 0..part.len() {
-        text(name);
-        float(part[k]);
-    }
-}
-
-// The outcome of a run over n samples; its coefficients where there are few.
-pub fn outcome<'a>(name: &[u8], o: Outcome, cr: &'a [f64], h: &'a [f64], n: usize) {
-    text(name);
-    let w = hosted::words_of(o);
-    if w[0] > 0 {
-        number_line(b"  refusal     ", w[0]);
-        number_line(b"  index       ", w[1]);
-        return;
-    }
-    accepted(w);
-    coefficients(b"  crate       ", readings::shown(cr, h, Reading::Crate, n));
-    coefficients(b"  home        ", readings::shown(cr, h, Reading::Home, n));
 }

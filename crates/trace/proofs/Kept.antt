@@ -14,12 +14,11 @@ use mathlib.Core.Path.{◌≡◌, refl}
 use native.Mathlib.Omega.{arith}
 use lib.Dec.{eqb, ltb}
 use lib.Ieee.{Float, binary64, mul, le}
+use Rattle.std.specs.Prelude.{Option, Some, None}
 use Rattle.choose_c.specs.Choice.{choice_c}
 use Rattle.choose_c.proofs.Rule as C
 use Rattle.choose_nu.specs.Choice.{choice_nu}
 use Rattle.choose_nu.proofs.Rule as Nu
-use Rattle.extreme.specs.declared.Choice.{Choice}
-use Rattle.extreme.specs.declared.Choice.TheVariants.{Pair, Optimal}
 use Rattle.modes.specs.Modes.{repaired}
 use Rattle.reconstruct.specs.Reconstruct.{reconstructed}
 use Rattle.shrink.specs.Drops.{drops_at}
@@ -44,12 +43,12 @@ pub record Keeps (g : Given) (P : State → Type 0) (w : Full) : Type 0 where
 
 module _ (g : Given) (m : List ℕ) where
   -- the two of a pair are two
-  pub chosen_apart : (w : Full) (i j : ℕ) → chosen g m w ≡ Pair i j → i ≡ j → ⊥
+  pub chosen_apart : (w : Full) (i j : ℕ) → chosen g m w ≡ Some (i, j) → i ≡ j → ⊥
   unfolding chosen
   chosen_apart w i j = go g.nu
     where
       go : (x : Bool)
-          → cond x (choice_nu (problem_of g m) w.state g.floor g.eps w.run.active) (choice_c (problem_of g m) w.state g.floor g.eps w.run.active) ≡ Pair i j
+          → cond x (choice_nu (problem_of g m) w.state g.floor g.eps w.run.active) (choice_c (problem_of g m) w.state g.floor g.eps w.run.active) ≡ Some (i, j)
           → i ≡ j → ⊥
       go true e = ((Nu.pair_rule (problem_of g m) w.state w.run.active g.floor g.eps i j).0 e).1.apart
       go false e = ((C.pair_rule (problem_of g m) w.state w.run.active g.floor g.eps i j).0 e).1.apart
@@ -57,7 +56,7 @@ module _ (g : Given) (m : List ℕ) where
   -- for what asks of the pair only that it is of two active positions
   pub pair_keeps : (P : State → Type 0) (b : List Float)
       → ((s : State) (i j a : ℕ) → i < a → j < a → a ≤ g.n → (i ≡ j → ⊥) → P s → P (updated_state (problem_of g m) b g.mode g.floor s i j a))
-      → (w : Full) (i j : ℕ) → chosen g m w ≡ Pair i j → Keeps g P w → P (updated_state (problem_of g m) b g.mode g.floor w.state i j w.run.active)
+      → (w : Full) (i j : ℕ) → chosen g m w ≡ Some (i, j) → Keeps g P w → P (updated_state (problem_of g m) b g.mode g.floor w.state i j w.run.active)
   pair_keeps P b on-pair w i j e k =
       let l = chosen_below g m w i j e in
       on-pair w.state i j w.run.active l.0 l.1 k.active (chosen_apart w i j e) k.kept
@@ -119,22 +118,22 @@ module _ (g : Given) (m : List ℕ) where
     unfolding look_by
     look_keeps v k = go (chosen g m v)
       where
-        go : (c : Choice) → K (look_by g m v c)
-        go (Pair i j) = k
-        go Optimal = refreshed_keeps v k
+        go : (c : Option (ℕ × ℕ)) → K (look_by g m v c)
+        go (Some (i, j)) = k
+        go None = refreshed_keeps v k
 
     -- an update from a state w whose choice is i and j keeps it
     module _ (b : List Float)
-        (on_updated : (w : Full) (i j : ℕ) → chosen g m w ≡ Pair i j → K w → P (updated_state (problem_of g m) b g.mode g.floor w.state i j w.run.active)) where
-      looked_keeps : (w : Full) (c : Choice) → chosen g m w ≡ c → K w → K (looked g m b w c)
+        (on_updated : (w : Full) (i j : ℕ) → chosen g m w ≡ Some (i, j) → K w → P (updated_state (problem_of g m) b g.mode g.floor w.state i j w.run.active)) where
+      looked_keeps : (w : Full) (c : Option (ℕ × ℕ)) → chosen g m w ≡ c → K w → K (looked g m b w c)
       unfolding looked stepped
-      looked_keeps w (Pair i j) e k = record { kept = on_updated w i j e k; active = k.active }
-      looked_keeps w Optimal e k = record { kept = k.kept; active = k.active }
+      looked_keeps w (Some (i, j)) e k = record { kept = on_updated w i j e k; active = k.active }
+      looked_keeps w None e k = record { kept = k.kept; active = k.active }
 
-      worked_keeps : (w : Full) (c : Choice) → chosen g m w ≡ c → K w → K (worked_by g m b w c)
+      worked_keeps : (w : Full) (c : Option (ℕ × ℕ)) → chosen g m w ≡ c → K w → K (worked_by g m b w c)
       unfolding worked_by stepped
-      worked_keeps w (Pair i j) e k = record { kept = on_updated w i j e k; active = k.active }
-      worked_keeps w Optimal e k = looked_keeps (refreshed g m w) (chosen g m (refreshed g m w)) refl (refreshed_keeps w k)
+      worked_keeps w (Some (i, j)) e k = record { kept = on_updated w i j e k; active = k.active }
+      worked_keeps w None e k = looked_keeps (refreshed g m w) (chosen g m (refreshed g m w)) refl (refreshed_keeps w k)
 
       onward_keeps : (x : Bool) (w : Full) → K w → K (onward g m b x w)
       unfolding onward

@@ -13,8 +13,7 @@ use native.Mathlib.Omega.{arith}
 use lib.Ieee.{Float, nan}
 use lib.ListN.{length, get_or, length-append, get_or-append}
 use lib.Seq.{get_or_at}
-use Rattle.extreme.specs.declared.Choice.{Choice}
-use Rattle.extreme.specs.declared.Choice.TheVariants.{Pair, Optimal}
+use Rattle.std.specs.Prelude.{Option, Some, None}
 use Rattle.modes.specs.Modes.{repaired}
 use Rattle.reconstruct.specs.Reconstruct.{reconstructed}
 use Rattle.solver.specs.Pass.{chosen, rebuilt, refreshed, counted_down, passed, runs}
@@ -45,15 +44,15 @@ module _ (g : Given) (m : List ℕ) where
   unfolding moved
   roomy_moved s i j a b r = rw (length_fields nan g.n s.floats i j 5) r
 
-  look_numbers : (v : Full) (c : Choice) → (look_by g m v c).state.numbers ≡ v.state.numbers
+  look_numbers : (v : Full) (c : Option (ℕ × ℕ)) → (look_by g m v c).state.numbers ≡ v.state.numbers
   unfolding look_by refreshed rebuilt
-  look_numbers v (Pair i j) = refl
-  look_numbers v Optimal = refl
+  look_numbers v (Some (i, j)) = refl
+  look_numbers v None = refl
 
-  look_roomy : (v : Full) (c : Choice) → v.run.active ≤ g.n → Roomy v.state → Roomy (look_by g m v c).state
+  look_roomy : (v : Full) (c : Option (ℕ × ℕ)) → v.run.active ≤ g.n → Roomy v.state → Roomy (look_by g m v c).state
   unfolding look_by
-  look_roomy v (Pair i j) l r = r
-  look_roomy v Optimal l r = (refreshed_keeps g m Roomy roomy_rebuilt roomy_moved v (record { kept = r; active = l })).kept
+  look_roomy v (Some (i, j)) l r = r
+  look_roomy v None l r = (refreshed_keeps g m Roomy roomy_rebuilt roomy_moved v (record { kept = r; active = l })).kept
 
   module _ (b : List Float) where
     -- e is the step that the pass which begins in w adds
@@ -73,7 +72,7 @@ module _ (g : Given) (m : List ℕ) where
       pub after_i : e.left_i ≡ (alpha (problem_of g m) (passed g m b w).state e.i).value
       pub after_j : e.left_j ≡ (alpha (problem_of g m) (passed g m b w).state e.j).value
 
-    pub step_left : (w : Full) (i j : ℕ) → w.run.active ≤ g.n → Roomy w.state → pair_from g m w ≡ Pair i j → StepLeft w (step_at g m (passed g m b w) i j)
+    pub step_left : (w : Full) (i j : ℕ) → w.run.active ≤ g.n → Roomy w.state → pair_from g m w ≡ Some (i, j) → StepLeft w (step_at g m (passed g m b w) i j)
     unfolding added steps_of
     step_left w i j l r e =
         let p = problem_of g m in
@@ -112,7 +111,7 @@ module _ (g : Given) (m : List ℕ) where
     -- e is the step of pass k, which was made
     pub record StepOf (w : Full) (k : ℕ) (e : Step) : Type 0 where
       pub going : goes (runs g m b w k).run.status ≡ true
-      pub pair : pair_from g m (runs g m b w k) ≡ Pair e.i e.j
+      pub pair : pair_from g m (runs g m b w k) ≡ Some (e.i, e.j)
       pub is : e ≡ step_at g m (passed g m b (runs g m b w k)) e.i e.j
 
     pub each_step : (w : Full) (t k : ℕ) (d : Step) → k < length (traced g m b w t) → StepOf w k (get_or (traced g m b w t) k d)
@@ -126,10 +125,10 @@ module _ (g : Given) (m : List ℕ) where
         old : (es : List Step) (l : k < length (traced g m b w t)) → StepOf w k (get_or (traced g m b w t) k d) → StepOf w k (get_or (traced g m b w t ++ es) k d)
         old es l s = rw (get_or-append (traced g m b w t) es d k l) s
 
-        one : (c : Choice) → goes v.run.status ≡ true → pair_from g m v ≡ c → (k < length (traced g m b w t) → StepOf w k (get_or (traced g m b w t) k d))
+        one : (c : Option (ℕ × ℕ)) → goes v.run.status ≡ true → pair_from g m v ≡ c → (k < length (traced g m b w t) → StepOf w k (get_or (traced g m b w t) k d))
             → k < length (traced g m b w t ++ steps_of g m (passed g m b v) c)
             → StepOf w k (get_or (traced g m b w t ++ steps_of g m (passed g m b v) c) k d)
-        one (Pair i j) going e ih l =
+        one (Some (i, j)) going e ih l =
             let s = length-append (traced g m b w t) (step_at g m (passed g m b v) i j ∷ []) in
             let r : k ≤ length (traced g m b w t) = omega arith in
             elim (eq-or-lt_of_le r) [
@@ -138,7 +137,7 @@ module _ (g : Given) (m : List ℕ) where
                   (subst (λ (u : ℕ). StepOf w u (step_at g m (passed g m b v) i j)) (sym (z ∙ steps_going g m b w t going)) (record { going = going; pair = e; is = refl }))
               | inr z ↦ old (step_at g m (passed g m b v) i j ∷ []) z (ih z)
             ]
-        one Optimal going e ih l = let z = append-nil (traced g m b w t) in let y = rw z at l in old [] y (ih y)
+        one None going e ih l = let z = append-nil (traced g m b w t) in let y = rw z at l in old [] y (ih y)
 
         go : (x : Bool) → goes v.run.status ≡ x → (k < length (traced g m b w t) → StepOf w k (get_or (traced g m b w t) k d))
             → k < length (traced g m b w t ++ added g m b x v) → StepOf w k (get_or (traced g m b w t ++ added g m b x v) k d)

@@ -9,9 +9,8 @@ use native.Mathlib.Omega.{arith}
 use lib.Ieee.{Float, nan, binary64, sub}
 use lib.ListN.{length, set}
 use lib.Seq.{get_or-set_other}
+use Rattle.std.specs.Prelude.{Option, Some, None}
 use Rattle.alpha.specs.Weight.{weight}
-use Rattle.extreme.specs.declared.Choice.{Choice}
-use Rattle.extreme.specs.declared.Choice.TheVariants.{Pair, Optimal}
 use Rattle.modes.specs.Modes.{travels, repaired}
 use Rattle.modes.specs.declared.Mode.TheVariants.{Crate, Travelling}
 use Rattle.reconstruct.specs.Reconstruct.{reconstructed}
@@ -133,7 +132,7 @@ module _ (g : Given) (m : List ℕ) (b : List Float) (A : ℕ → Type 0) (most 
     pub upper : (k : ℕ) → k < g.n → (alpha p w.state k).upper ≡ bound b k
     pub active : A w.run.active
 
-  stepped_matched : (w : Full) (i j : ℕ) → chosen g1 m w ≡ Pair i j → Matched w → Matched (stepped g1 m b w i j)
+  stepped_matched : (w : Full) (i j : ℕ) → chosen g1 m w ≡ Some (i, j) → Matched w → Matched (stepped g1 m b w i j)
   unfolding stepped
   stepped_matched w i j e k =
       record { room = rw (length_updated p b Crate g.floor w.state i j w.run.active) k.room; upper = λ q z. go q z (ℕ_discrete q i) (ℕ_discrete q j); active = k.active }
@@ -153,7 +152,7 @@ module _ (g : Given) (m : List ℕ) (b : List Float) (A : ℕ → Type 0) (most 
       go q z (no f) (yes h) = rw h (ap (λ r. r.upper) (alpha_j p b Crate g.floor w.state i j w.run.active x y few k.room) ∙ ceiling_crate p b w.state j)
       go q z (no f) (no h) = ap (λ r. r.upper) (alpha_other p b Crate g.floor w.state i j w.run.active x y few k.room q z f h) ∙ k.upper q z
 
-  stepped_same : (w : Full) (i j : ℕ) → chosen g1 m w ≡ Pair i j → Matched w → stepped g2 m b w i j ≡ stepped g1 m b w i j
+  stepped_same : (w : Full) (i j : ℕ) → chosen g1 m w ≡ Some (i, j) → Matched w → stepped g2 m b w i j ≡ stepped g1 m b w i j
   unfolding stepped
   stepped_same w i j e k =
       let l = chosen_below g1 m w i j e in
@@ -170,18 +169,18 @@ module _ (g : Given) (m : List ℕ) (b : List Float) (A : ℕ → Type 0) (most 
   recounted w t k = record { room = k.room; upper = k.upper; active = k.active }
 
   -- what the second look leaves is the same, and matched
-  looked_same : (w : Full) (h : Choice) → chosen g1 m w ≡ h → Matched w → (looked g2 m b w h ≡ looked g1 m b w h) × Matched (looked g1 m b w h)
+  looked_same : (w : Full) (h : Option (ℕ × ℕ)) → chosen g1 m w ≡ h → Matched w → (looked g2 m b w h ≡ looked g1 m b w h) × Matched (looked g1 m b w h)
   unfolding looked
-  looked_same w (Pair i j) e k =
+  looked_same w (Some (i, j)) e k =
       let v = with_run w (counter_at w.run 1) in
       (stepped_same v i j (counter_none w 1 ∙ e) (recounted w 1 k), stepped_matched v i j (counter_none w 1 ∙ e) (recounted w 1 k))
-  looked_same w Optimal e k = (refl, record { room = k.room; upper = k.upper; active = k.active })
+  looked_same w None e k = (refl, record { room = k.room; upper = k.upper; active = k.active })
 
   module _ (counts : (w : Full) → Matched w → Matched (counted_down g1 m w)) (widens : (w : Full) → Matched w → Matched (refreshed g1 m w)) where
-    worked_same : (w : Full) (h : Choice) → chosen g1 m w ≡ h → Matched w → (worked_by g2 m b w h ≡ worked_by g1 m b w h) × Matched (worked_by g1 m b w h)
+    worked_same : (w : Full) (h : Option (ℕ × ℕ)) → chosen g1 m w ≡ h → Matched w → (worked_by g2 m b w h ≡ worked_by g1 m b w h) × Matched (worked_by g1 m b w h)
     unfolding worked_by
-    worked_same w (Pair i j) e k = (stepped_same w i j e k, stepped_matched w i j e k)
-    worked_same w Optimal e k =
+    worked_same w (Some (i, j)) e k = (stepped_same w i j e k, stepped_matched w i j e k)
+    worked_same w None e k =
         let v = refreshed g1 m w in
         let z = looked_same v (chosen g1 m v) refl (widens w k) in
         (rw (refreshed_same g m w, chosen_same g m v) z.0, z.1)

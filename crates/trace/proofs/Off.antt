@@ -11,8 +11,7 @@ use native.Mathlib.Omega.{arith}
 use borrow.Author.Tests.{eq-eqb, le-ltb}
 use lib.Dec.{eqb, ltb}
 use lib.Ieee.{Float}
-use Rattle.extreme.specs.declared.Choice.{Choice}
-use Rattle.extreme.specs.declared.Choice.TheVariants.{Pair, Optimal}
+use Rattle.std.specs.Prelude.{Option, Some, None}
 use Rattle.modes.specs.Modes.{repaired}
 use Rattle.reconstruct.specs.Reconstruct.{reconstructed}
 use Rattle.solver.specs.End.{closed}
@@ -67,12 +66,12 @@ module _ (g : Given) (m : List ℕ) where
         go false true e = absurd (true≢false e)
         go false false e = record { state = refl; active = refl; iterations = refl; status = refl }
 
-    look_off : (v : Full) (c : Choice) → v.run.active ≡ g.n → look_by g m v c ≡ v
+    look_off : (v : Full) (c : Option (ℕ × ℕ)) → v.run.active ≡ g.n → look_by g m v c ≡ v
     unfolding look_by
-    look_off v (Pair i j) e = refl
-    look_off v Optimal e = refreshed_off v e
+    look_off v (Some (i, j)) e = refl
+    look_off v None e = refreshed_off v e
 
-    pub step_off : (b : List Float) (w : Full) (i j : ℕ) → w.run.active ≡ g.n → pair_from g m w ≡ Pair i j
+    pub step_off : (b : List Float) (w : Full) (i j : ℕ) → w.run.active ≡ g.n → pair_from g m w ≡ Some (i, j)
         → (passed g m b w).state ≡ updated_state (problem_of g m) b g.mode g.floor w.state i j g.n
     step_off b w i j e q =
         let v = counted_down g m w in

@@ -6,10 +6,9 @@ use mathlib.Core.Path.{◌≡◌, refl, sym, ◌∙◌}
 use native.Mathlib.Omega.{arith}
 use lib.Dec.{eqb, ltb}
 use lib.Ieee.{Float, binary64, mul, le}
+use Rattle.std.specs.Prelude.{Option, Some, None}
 use Rattle.choose_c.specs.Choice.{extremes_c}
 use Rattle.choose_nu.specs.Choice.{extremes_nu}
-use Rattle.extreme.specs.declared.Choice.{Choice}
-use Rattle.extreme.specs.declared.Choice.TheVariants.{Pair, Optimal}
 use Rattle.modes.specs.Modes.{repaired}
 use Rattle.shrink.specs.Drops.{limits_nu, drops_at, walked_over}
 use Rattle.shrink.specs.Walk.{walked}
@@ -83,15 +82,15 @@ module _ (g : Given) (m : List ℕ) (h : repaired g.mode ≡ true) where
   going_open e = let z : ◌≡◌ {A = ℕ} 0 1 = cc in omega arith
 
   module _ (b : List Float) where
-    looked_open : (w : Full) (c : Choice) → Open w → Open (looked g m b w c)
+    looked_open : (w : Full) (c : Option (ℕ × ℕ)) → Open w → Open (looked g m b w c)
     unfolding looked stepped
-    looked_open w (Pair i j) o e = o e
-    looked_open w Optimal o e = done_open e
+    looked_open w (Some (i, j)) o e = o e
+    looked_open w None o e = done_open e
 
-    worked_open : (w : Full) (c : Choice) → Open w → Open (worked_by g m b w c)
+    worked_open : (w : Full) (c : Option (ℕ × ℕ)) → Open w → Open (worked_by g m b w c)
     unfolding worked_by stepped
-    worked_open w (Pair i j) o e = o e
-    worked_open w Optimal o e = looked_open (refreshed g m w) (chosen g m (refreshed g m w)) (λ z. o (sym (refreshed_kept w) ∙ z)) e
+    worked_open w (Some (i, j)) o e = o e
+    worked_open w None o e = looked_open (refreshed g m w) (chosen g m (refreshed g m w)) (λ z. o (sym (refreshed_kept w) ∙ z)) e
 
     onward_open : (x : Bool) (w : Full) → Open w → Open (onward g m b x w)
     unfolding onward

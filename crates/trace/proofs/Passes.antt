@@ -11,19 +11,16 @@ use mathlib.Core.List.{List}
 use mathlib.Core.Logic.{◌⊎◌, inl, inr}
 use mathlib.Core.Path.{◌≡◌, refl, sym, ◌∙◌}
 use lib.Ieee.{Float}
-use Rattle.extreme.specs.declared.Choice.{Choice}
-use Rattle.extreme.specs.declared.Choice.TheVariants.{Pair, Optimal}
+use Rattle.std.proofs.lemmas.Option.{none-some}
+use Rattle.std.specs.Prelude.{Option, Some, None}
 use Rattle.modes.specs.Modes.{repaired}
-use Rattle.partner.proofs.Rule.{not_optimal}
+use Rattle.partner.proofs.Rule.{same_pair}
 use Rattle.solver.specs.Pass.{chosen, refreshed, counted_down, stepped, looked, worked_by, onward, passed}
 use Rattle.solver.specs.Run.{problem_of, Full, active_at, goes}
 use Rattle.solver.specs.declared.Given.{Given}
 use Rattle.solver.specs.declared.Status.TheVariants.{Done}
 use Rattle.update.specs.Update.{updated_state}
 use Rattle.trace.specs.Trace.{look_by, look_at, pair_on, pair_from}
-
-same_pair : (h k i j : ℕ) → Pair h k ≡ Pair i j → (h ≡ i) × (k ≡ j)
-same_pair h k i j q = let x : h ≡ i = cc in let y : k ≡ j = cc in (x, y)
 
 module _ (g : Given) (m : List ℕ) where
   either_status : (x : Bool) (v : Full) → (cond x (active_at v.run g.n) v.run).status ≡ v.run.status
@@ -35,23 +32,23 @@ module _ (g : Given) (m : List ℕ) where
   either_iterations false v = refl
 
   -- no look ends a run or counts a step
-  pub look_status : (v : Full) (c : Choice) → (look_by g m v c).run.status ≡ v.run.status
+  pub look_status : (v : Full) (c : Option (ℕ × ℕ)) → (look_by g m v c).run.status ≡ v.run.status
   unfolding look_by refreshed
-  look_status v (Pair i j) = refl
-  look_status v Optimal = either_status (repaired g.mode) v
+  look_status v (Some (i, j)) = refl
+  look_status v None = either_status (repaired g.mode) v
 
-  pub look_iterations : (v : Full) (c : Choice) → (look_by g m v c).run.iterations ≡ v.run.iterations
+  pub look_iterations : (v : Full) (c : Option (ℕ × ℕ)) → (look_by g m v c).run.iterations ≡ v.run.iterations
   unfolding look_by refreshed
-  look_iterations v (Pair i j) = refl
-  look_iterations v Optimal = either_iterations (repaired g.mode) v
+  look_iterations v (Some (i, j)) = refl
+  look_iterations v None = either_iterations (repaired g.mode) v
 
   -- the state of the last look gives the pair
-  on_look : (x : Bool) (v : Full) (i j : ℕ) → pair_on g m x v ≡ Pair i j → chosen g m (look_at g m v) ≡ Pair i j
+  on_look : (x : Bool) (v : Full) (i j : ℕ) → pair_on g m x v ≡ Some (i, j) → chosen g m (look_at g m v) ≡ Some (i, j)
   unfolding pair_on
   on_look true v i j e = e
-  on_look false v i j e = absurd (not_optimal i j e)
+  on_look false v i j e = absurd (none-some (i, j) e)
 
-  pub pair_look : (w : Full) (i j : ℕ) → pair_from g m w ≡ Pair i j → chosen g m (look_at g m (counted_down g m w)) ≡ Pair i j
+  pub pair_look : (w : Full) (i j : ℕ) → pair_from g m w ≡ Some (i, j) → chosen g m (look_at g m (counted_down g m w)) ≡ Some (i, j)
   unfolding pair_from
   pair_look w i j e = let v = counted_down g m w in on_look (goes v.run.status) v i j e
 
@@ -63,27 +60,27 @@ module _ (g : Given) (m : List ℕ) (b : List Float) where
     pub iterations : v.run.iterations ≡ u.run.iterations + 1
     pub status : v.run.status ≡ u.run.status
 
-  looked_steps : (u : Full) (c : Choice) (i j : ℕ) → c ≡ Pair i j → Steps u (looked g m b u c) i j
+  looked_steps : (u : Full) (c : Option (ℕ × ℕ)) (i j : ℕ) → c ≡ Some (i, j) → Steps u (looked g m b u c) i j
   unfolding looked stepped
-  looked_steps u (Pair h k) i j e =
+  looked_steps u (Some (h, k)) i j e =
       let x = same_pair h k i j e in
       rw (x.0, x.1) (record { state = refl; active = refl; iterations = refl; status = refl })
-  looked_steps u Optimal i j e = absurd (not_optimal i j e)
+  looked_steps u None i j e = absurd (none-some (i, j) e)
 
-  worked_steps : (v : Full) (c : Choice) (i j : ℕ) → chosen g m v ≡ c → chosen g m (look_by g m v c) ≡ Pair i j → Steps (look_by g m v c) (worked_by g m b v c) i j
+  worked_steps : (v : Full) (c : Option (ℕ × ℕ)) (i j : ℕ) → chosen g m v ≡ c → chosen g m (look_by g m v c) ≡ Some (i, j) → Steps (look_by g m v c) (worked_by g m b v c) i j
   unfolding worked_by look_by stepped
-  worked_steps v (Pair h k) i j e q =
+  worked_steps v (Some (h, k)) i j e q =
       let x = same_pair h k i j (sym e ∙ q) in
       rw (x.0, x.1) (record { state = refl; active = refl; iterations = refl; status = refl })
-  worked_steps v Optimal i j e q = looked_steps (refreshed g m v) (chosen g m (refreshed g m v)) i j q
+  worked_steps v None i j e q = looked_steps (refreshed g m v) (chosen g m (refreshed g m v)) i j q
 
-  onward_steps : (x : Bool) (v : Full) (i j : ℕ) → pair_on g m x v ≡ Pair i j → Steps (look_at g m v) (onward g m b x v) i j
+  onward_steps : (x : Bool) (v : Full) (i j : ℕ) → pair_on g m x v ≡ Some (i, j) → Steps (look_at g m v) (onward g m b x v) i j
   unfolding onward pair_on
   onward_steps true v i j e = worked_steps v (chosen g m v) i j refl e
-  onward_steps false v i j e = absurd (not_optimal i j e)
+  onward_steps false v i j e = absurd (none-some (i, j) e)
 
   -- a pass with a pair is one update from the state of its last look
-  pub pass_steps : (w : Full) (i j : ℕ) → pair_from g m w ≡ Pair i j → Steps (look_at g m (counted_down g m w)) (passed g m b w) i j
+  pub pass_steps : (w : Full) (i j : ℕ) → pair_from g m w ≡ Some (i, j) → Steps (look_at g m (counted_down g m w)) (passed g m b w) i j
   unfolding passed pair_from
   pass_steps w i j e = let v = counted_down g m w in onward_steps (goes v.run.status) v i j e
 
@@ -91,24 +88,24 @@ module _ (g : Given) (m : List ℕ) (b : List Float) where
 
   -- refused by the walk; or no pair at either look
   pub record Ends (v x : Full) : Type 0 where
-    pub first : chosen g m v ≡ Optimal
-    pub second : chosen g m (refreshed g m v) ≡ Optimal
+    pub first : chosen g m v ≡ None
+    pub second : chosen g m (refreshed g m v) ≡ None
     pub state : x.state ≡ (refreshed g m v).state
     pub active : x.run.active ≡ (refreshed g m v).run.active
     pub iterations : x.run.iterations ≡ v.run.iterations
     pub status : x.run.status ≡ Done
 
-  worked_ends : (v : Full) (c : Choice) → chosen g m v ≡ c → chosen g m (look_by g m v c) ≡ Optimal → Ends v (worked_by g m b v c)
+  worked_ends : (v : Full) (c : Option (ℕ × ℕ)) → chosen g m v ≡ c → chosen g m (look_by g m v c) ≡ None → Ends v (worked_by g m b v c)
   unfolding worked_by look_by looked
-  worked_ends v (Pair h k) e q = absurd (not_optimal h k (sym q ∙ e))
-  worked_ends v Optimal e q = record { first = e; second = q; state = rw q; active = rw q; iterations = rw q (look_iterations g m v Optimal); status = rw q }
+  worked_ends v (Some (h, k)) e q = absurd (none-some (h, k) (sym q ∙ e))
+  worked_ends v None e q = record { first = e; second = q; state = rw q; active = rw q; iterations = rw q (look_iterations g m v None); status = rw q }
 
-  onward_ends : (x : Bool) (v : Full) → pair_on g m x v ≡ Optimal → ((x ≡ false) × (onward g m b x v ≡ v)) ⊎ Ends v (onward g m b x v)
+  onward_ends : (x : Bool) (v : Full) → pair_on g m x v ≡ None → ((x ≡ false) × (onward g m b x v ≡ v)) ⊎ Ends v (onward g m b x v)
   unfolding onward pair_on
   onward_ends true v e = inr (worked_ends v (chosen g m v) refl e)
   onward_ends false v e = inl (refl, refl)
 
-  pub pass_ends : (w : Full) → pair_from g m w ≡ Optimal
+  pub pass_ends : (w : Full) → pair_from g m w ≡ None
       → ((goes (counted_down g m w).run.status ≡ false) × (passed g m b w ≡ counted_down g m w)) ⊎ Ends (counted_down g m w) (passed g m b w)
   unfolding passed pair_from
   pass_ends w e = let v = counted_down g m w in onward_ends (goes v.run.status) v e

@@ -16,12 +16,11 @@ use native.Mathlib.Omega.{arith}
 use borrow.Author.Tests.{ne_eqb}
 use lib.Dec.{eqb, ltb}
 use lib.Ieee.{Float, binary64, add, mul, le}
+use Rattle.std.specs.Prelude.{Option, Some, None}
 use Rattle.choose_c.specs.Choice.{extremes_c, choice_c}
 use Rattle.choose_c.proofs.Rule.{risen_c, fallen_c, rises_c, falls_c, sum_c}
 use Rattle.choose_nu.specs.Choice.{risen, fallen, choice_nu}
 use Rattle.choose_nu.proofs.Rule.{risen_nu, fallen_nu, rises_nu, falls_nu, sum_nu}
-use Rattle.extreme.specs.declared.Choice.{Choice}
-use Rattle.extreme.specs.declared.Choice.TheVariants.{Pair, Optimal}
 use Rattle.extreme.specs.Rule.{everybody}
 use Rattle.partner.specs.Rule.{Pairs, NoSecond, Sum}
 use Rattle.partner.specs.Second.{choice, second}
@@ -70,32 +69,32 @@ module _ (stands : ℕ → Bool) (g : Given) (m : List ℕ) (s : State) (a : ℕ
       back false x w = rw (sums_are false true (x true) (w true))
 
   -- the choice over those that stand, by either rule
-  abbrev pub choice_by : Bool → Choice
+  abbrev pub choice_by : Bool → Option (ℕ × ℕ)
   choice_by true = chosen_by stands p s g.floor a (risen_nu stands p s a) (Rises stands g m s a true) (rises_nu stands p s a) (is_below stands g m s a true (sums_by true))
   choice_by false = chosen_by stands p s g.floor a (λ t. risen_c stands p s a) (Rises stands g m s a false) (λ t. rises_c stands p s a) (is_below stands g m s a false (sums_by false))
 
-  pub pair_words : (nu : Bool) (i j : ℕ) → (choice_by nu ≡ Pair i j) ↔ (Level stands g m s a nu false × Pairs stands p s g.floor a (Rises stands g m s a nu) i j)
+  pub pair_words : (nu : Bool) (i j : ℕ) → (choice_by nu ≡ Some (i, j)) ↔ (Level stands g m s a nu false × Pairs stands p s g.floor a (Rises stands g m s a nu) i j)
   pair_words nu i j = (λ e. let w = (by nu).0 e in ((level_words nu false).0 w.0, w.1), λ w. (by nu).1 ((level_words nu false).1 w.0, w.1))
     where
-      by : (nu : Bool) → (choice_by nu ≡ Pair i j) ↔ ((is_below stands g m s a nu (sums_by nu) ≡ false) × Pairs stands p s g.floor a (Rises stands g m s a nu) i j)
+      by : (nu : Bool) → (choice_by nu ≡ Some (i, j)) ↔ ((is_below stands g m s a nu (sums_by nu) ≡ false) × Pairs stands p s g.floor a (Rises stands g m s a nu) i j)
       by true = choice_pair stands p s g.floor a (risen_nu stands p s a) (Rises stands g m s a true) (rises_nu stands p s a) (is_below stands g m s a true (sums_by true)) i j
       by false = choice_pair stands p s g.floor a (λ t. risen_c stands p s a) (Rises stands g m s a false) (λ t. rises_c stands p s a) (is_below stands g m s a false (sums_by false)) i j
 
-  pub optimal_words : (nu : Bool) → (choice_by nu ≡ Optimal) ↔ (Level stands g m s a nu true ⊎ NoSecond stands p s g.floor a (Rises stands g m s a nu))
+  pub optimal_words : (nu : Bool) → (choice_by nu ≡ None) ↔ (Level stands g m s a nu true ⊎ NoSecond stands p s g.floor a (Rises stands g m s a nu))
   optimal_words nu = (λ e. ⊎_elim (λ z. inl ((level_words nu true).0 z)) inr ((by nu).0 e), λ w. (by nu).1 (⊎_elim (λ z. inl ((level_words nu true).1 z)) inr w))
     where
-      by : (nu : Bool) → (choice_by nu ≡ Optimal) ↔ ((is_below stands g m s a nu (sums_by nu) ≡ true) ⊎ NoSecond stands p s g.floor a (Rises stands g m s a nu))
+      by : (nu : Bool) → (choice_by nu ≡ None) ↔ ((is_below stands g m s a nu (sums_by nu) ≡ true) ⊎ NoSecond stands p s g.floor a (Rises stands g m s a nu))
       by true = choice_optimal stands p s g.floor a (risen_nu stands p s a) (Rises stands g m s a true) (rises_nu stands p s a) (is_below stands g m s a true (sums_by true))
       by false = choice_optimal stands p s g.floor a (λ t. risen_c stands p s a) (Rises stands g m s a false) (λ t. rises_c stands p s a) (is_below stands g m s a false (sums_by false))
 
   -- a choice that is one of these is the rule's
-  pub by_words : (c : Choice) → c ≡ choice_by g.nu → (i j : ℕ) → (c ≡ Pair i j) ↔ ByRule stands g m s a i j
+  pub by_words : (c : Option (ℕ × ℕ)) → c ≡ choice_by g.nu → (i j : ℕ) → (c ≡ Some (i, j)) ↔ ByRule stands g m s a i j
   by_words c e i j = (
     λ q. let w = (pair_words g.nu i j).0 (sym e ∙ q) in record { level = w.0; pair = w.1 },
     λ w. e ∙ (pair_words g.nu i j).1 (w.level, w.pair),
   )
 
-  pub none_by_words : (c : Choice) → c ≡ choice_by g.nu → (c ≡ Optimal) ↔ NoPair stands g m s a
+  pub none_by_words : (c : Option (ℕ × ℕ)) → c ≡ choice_by g.nu → (c ≡ None) ↔ NoPair stands g m s a
   none_by_words c e = (λ q. (optimal_words g.nu).0 (sym e ∙ q), λ w. e ∙ (optimal_words g.nu).1 w)
 
 -- ---- the run's own choice: everybody stands
@@ -111,14 +110,14 @@ module _ (g : Given) (m : List ℕ) where
       go true = refl
       go false = refl
 
-  pub chosen_words : (v : Full) (i j : ℕ) → (chosen g m v ≡ Pair i j) ↔ PairIn g m v i j
+  pub chosen_words : (v : Full) (i j : ℕ) → (chosen g m v ≡ Some (i, j)) ↔ PairIn g m v i j
   chosen_words v i j = by_words everybody g m v.state v.run.active (chosen g m v) (chosen_is v) i j
 
-  pub none_words : (v : Full) → (chosen g m v ≡ Optimal) ↔ NoPairIn g m v
+  pub none_words : (v : Full) → (chosen g m v ≡ None) ↔ NoPairIn g m v
   none_words v = none_by_words everybody g m v.state v.run.active (chosen g m v) (chosen_is v)
 
   -- in the state of the pass's last look: counted down, and reconstructed where the first look found none
-  pub pair_by_rule : (w : Full) (i j : ℕ) → pair_from g m w ≡ Pair i j → PairIn g m (look_at g m (counted_down g m w)) i j
+  pub pair_by_rule : (w : Full) (i j : ℕ) → pair_from g m w ≡ Some (i, j) → PairIn g m (look_at g m (counted_down g m w)) i j
   pair_by_rule w i j e = (chosen_words (look_at g m (counted_down g m w)) i j).0 (pair_look g m w i j e)
 
   -- ---- counting down ends no run by itself
@@ -178,11 +177,11 @@ module _ (g : Given) (m : List ℕ) where
     pass_done : (w : Full) → w.run.status ≡ Going → (passed g m b w).run.status ≡ Done → Ends g m b (counted_down g m w) (passed g m b w)
     pass_done w h d = go (pair_from g m w) refl
       where
-        go : (c : Choice) → pair_from g m w ≡ c → Ends g m b (counted_down g m w) (passed g m b w)
-        go (Pair i j) e =
+        go : (c : Option (ℕ × ℕ)) → pair_from g m w ≡ c → Ends g m b (counted_down g m w) (passed g m b w)
+        go (Some (i, j)) e =
             let same = look_status g m (counted_down g m w) (chosen g m (counted_down g m w)) in
             absurd (counted_not_done w h (sym same ∙ sym (pass_steps g m b w i j e).status ∙ d))
-        go Optimal e = elim (pass_ends g m b w e) [
+        go None e = elim (pass_ends g m b w e) [
           | inl z ↦ absurd (counted_not_done w h (sym (ap (λ (x : Full). x.run.status) z.1) ∙ d))
           | inr z ↦ z
         ]

@@ -21,8 +21,7 @@ use lib.Dec.{eqb, ltb}
 use lib.Ieee.{Float}
 use lib.ListN.{length, get_or, length-append, get_or-append}
 use lib.Seq.{get_or_at}
-use Rattle.extreme.specs.declared.Choice.{Choice}
-use Rattle.extreme.specs.declared.Choice.TheVariants.{Pair, Optimal}
+use Rattle.std.specs.Prelude.{Option, Some, None}
 use Rattle.state.specs.Lists.{State}
 use Rattle.solver.specs.End.{closed, trained}
 use Rattle.solver.specs.Pass.{chosen, rebuilt, counted_down, passed, next, runs}
@@ -134,9 +133,9 @@ module _ (g : Given) (m : List ℕ) (b : List Float) where
   unfolding steps_of
   pass_iterations w = go (pair_from g m w) refl
     where
-      go : (c : Choice) → pair_from g m w ≡ c → (passed g m b w).run.iterations ≡ w.run.iterations + length (steps_of g m (passed g m b w) c)
-      go (Pair i j) e = let x = (pass_steps g m b w i j e).iterations in let y = look_iterations w in omega arith
-      go Optimal e =
+      go : (c : Option (ℕ × ℕ)) → pair_from g m w ≡ c → (passed g m b w).run.iterations ≡ w.run.iterations + length (steps_of g m (passed g m b w) c)
+      go (Some (i, j)) e = let x = (pass_steps g m b w i j e).iterations in let y = look_iterations w in omega arith
+      go None e =
           let y = counted_iterations g m w in
           elim (pass_ends g m b w e) [
             | inl z ↦ let x = ap (λ (v : Full). v.run.iterations) z.1 in omega arith
@@ -166,9 +165,9 @@ module _ (g : Given) (m : List ℕ) (b : List Float) where
   unfolding added steps_of
   one_at_most true w = go (pair_from g m w)
     where
-      go : (c : Choice) → length (steps_of g m (passed g m b w) c) ≤ 1
-      go (Pair i j) = omega arith
-      go Optimal = omega arith
+      go : (c : Option (ℕ × ℕ)) → length (steps_of g m (passed g m b w) c) ≤ 1
+      go (Some (i, j)) = omega arith
+      go None = omega arith
   one_at_most false w = omega arith
 
   pub steps_at_most : (w : Full) (t : ℕ) → length (traced g m b w t) ≤ t
@@ -187,9 +186,9 @@ module _ (g : Given) (m : List ℕ) (b : List Float) where
   unfolding steps_of goes
   onward_one w h = go (pair_from g m w) refl
     where
-      go : (c : Choice) → pair_from g m w ≡ c → length (steps_of g m (passed g m b w) c) ≡ 1
-      go (Pair i j) e = refl
-      go Optimal e = elim (pass_ends g m b w e) [
+      go : (c : Option (ℕ × ℕ)) → pair_from g m w ≡ c → length (steps_of g m (passed g m b w) c) ≡ 1
+      go (Some (i, j)) e = refl
+      go None e = elim (pass_ends g m b w e) [
         | inl z ↦ absurd (true≢false (sym h ∙ ap (λ (v : Full). goes v.run.status) z.1 ∙ z.0))
         | inr z ↦ absurd (true≢false (sym h ∙ ap goes z.status))
       ]

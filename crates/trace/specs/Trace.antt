@@ -1,7 +1,5 @@
 -- The steps of a run, pass for pass (the rule, section 'Run').
-use Rattle.std.specs.Prelude.{ℕ, zero, suc, Bool, true, false, List, [], ◌∷◌, ◌++◌, Float}
-use Rattle.extreme.specs.declared.Choice.{Choice}
-use Rattle.extreme.specs.declared.Choice.TheVariants.{Pair, Optimal}
+use Rattle.std.specs.Prelude.{ℕ, zero, suc, Bool, true, false, List, [], ◌∷◌, ◌++◌, Float, Option, Some, None}
 use Rattle.start.specs.Start.{started}
 use Rattle.state.specs.Fields.{alpha, sample}
 use Rattle.state.specs.Lists.{State}
@@ -20,19 +18,19 @@ pub record Step : Type 0 where
 
 module _ (g : Given) (m : List ℕ) where
   -- v is counted down, and c its first look: the state in which the pass takes its last look
-  unfoldable pub look_by : Full → Choice → Full
-  look_by v (Pair i j) = v
-  look_by v Optimal = refreshed g m v
+  unfoldable pub look_by : Full → Option (ℕ × ℕ) → Full
+  look_by v (Some (i, j)) = v
+  look_by v None = refreshed g m v
 
   abbrev pub look_at : Full → Full
   look_at v = look_by v (chosen g m v)
 
-  unfoldable pub pair_on : Bool → Full → Choice
+  unfoldable pub pair_on : Bool → Full → Option (ℕ × ℕ)
   pair_on true v = chosen g m (look_at v)
-  pair_on false v = Optimal
+  pair_on false v = None
 
   -- the pair with which the pass that begins in w steps; optimal where it doesn't step
-  unfoldable pub pair_from : Full → Choice
+  unfoldable pub pair_from : Full → Option (ℕ × ℕ)
   pair_from w = let v = counted_down g m w in pair_on (goes v.run.status) v
 
   -- v is what the pass leaves: nothing in a pass moves a sample after the walk
@@ -47,9 +45,9 @@ module _ (g : Given) (m : List ℕ) where
         left_j = (alpha (problem_of g m) v.state j).value;
       }
 
-  unfoldable pub steps_of : Full → Choice → List Step
-  steps_of v (Pair i j) = step_at v i j ∷ []
-  steps_of v Optimal = []
+  unfoldable pub steps_of : Full → Option (ℕ × ℕ) → List Step
+  steps_of v (Some (i, j)) = step_at v i j ∷ []
+  steps_of v None = []
 
   module _ (b : List Float) where
     -- what the pass that begins in w adds, where it is made

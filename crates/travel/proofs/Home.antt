@@ -17,8 +17,7 @@ use native.Mathlib.Omega.{arith}
 use borrow.Author.Tests.{eq-eqb, ne_eqb}
 use lib.Ieee.{Float, nan}
 use lib.ListN.{length, get_or}
-use Rattle.extreme.specs.declared.Choice.{Choice}
-use Rattle.extreme.specs.declared.Choice.TheVariants.{Pair, Optimal}
+use Rattle.std.specs.Prelude.{Option, Some, None}
 use Rattle.readings.specs.Order.{home_reading, weight_in, Perm}
 use Rattle.modes.specs.Modes.{repaired}
 use Rattle.reconstruct.specs.Reconstruct.{reconstructed}
@@ -151,10 +150,10 @@ module _ (g : Given) (m : List ℕ) (b : List Float) where
   rebuilt_tells : (x : ℕ → Float) (s : State) (a : ℕ) → a ≤ g.n → Told p x s → Told p x (over s (reconstructed p (repaired g.mode) a s))
   rebuilt_tells x s a l w = told_rebuilt p x s a l w (repaired g.mode)
 
-  look_tells : (x : ℕ → Float) (v : Full) (c : Choice) → Tells x v → Tells x (look_by g m v c)
+  look_tells : (x : ℕ → Float) (v : Full) (c : Option (ℕ × ℕ)) → Tells x v → Tells x (look_by g m v c)
   unfolding look_by
-  look_tells x v (Pair i j) k = k
-  look_tells x v Optimal k = refreshed_keeps g m (Told p x) (rebuilt_tells x) (told_moved p x) v k
+  look_tells x v (Some (i, j)) k = k
+  look_tells x v None k = refreshed_keeps g m (Told p x) (rebuilt_tells x) (told_moved p x) v k
 
   -- what the steps that a pass adds leave
   pass_tells : (x : ℕ → Float) (w : Full) → Tells x w → Tells (λ q. last_left (steps_of g m (passed g m b w) (pair_from g m w)) q (x q)) (passed g m b w)
@@ -167,8 +166,8 @@ module _ (g : Given) (m : List ℕ) (b : List Float) where
       told : Tells x v
       told = counted_keeps g m (Told p x) (rebuilt_tells x) (told_moved p x) w k
 
-      go : (c : Choice) → pair_from g m w ≡ c → Tells (λ q. last_left (steps_of g m (passed g m b w) c) q (x q)) (passed g m b w)
-      go (Pair i j) e =
+      go : (c : Option (ℕ × ℕ)) → pair_from g m w ≡ c → Tells (λ q. last_left (steps_of g m (passed g m b w) c) q (x q)) (passed g m b w)
+      go (Some (i, j)) e =
           let u = look_at g m v in
           let t = look_tells x v (chosen g m v) told in
           let l = chosen_below g m u i j (pair_look g m w i j e) in
@@ -177,7 +176,7 @@ module _ (g : Given) (m : List ℕ) (b : List Float) where
             kept = told_step x u.state (passed g m b w) i j u.run.active l.0 l.1 t.active s.state t.kept;
             active = rw s.active t.active;
           }
-      go Optimal e = elim (pass_ends g m b w e) [
+      go None e = elim (pass_ends g m b w e) [
         | inl z ↦ rw z.1 (record { kept = told.kept; active = told.active })
         | inr z ↦
             let t = refreshed_keeps g m (Told p x) (rebuilt_tells x) (told_moved p x) v told in

@@ -17,8 +17,7 @@ use native.Mathlib.Omega.{arith}
 use lib.Dec.{ltb}
 use lib.Ieee.{Float, nan, binary64, mul, le}
 use lib.ListN.{get_or}
-use Rattle.extreme.specs.declared.Choice.{Choice}
-use Rattle.extreme.specs.declared.Choice.TheVariants.{Pair, Optimal}
+use Rattle.std.specs.Prelude.{Option, Some, None}
 use Rattle.modes.specs.Modes.{repaired}
 use Rattle.modes.specs.declared.Mode.{Mode}
 use Rattle.reconstruct.specs.Reconstruct.{reconstructed}
@@ -237,10 +236,10 @@ module _ (g : Given) (m : List ℕ) where
   counted_fit : (w : Full) → ReadyRun w → ReadyRun (counted_down g m w)
   counted_fit w k = counted_keeps g m (Ready q) ready_rebuilt ready_move w k
 
-  look_fit : (v : Full) (c : Choice) → ReadyRun v → Stays g.n v.state (look_by g m v c).state × Ready q (look_by g m v c).state
+  look_fit : (v : Full) (c : Option (ℕ × ℕ)) → ReadyRun v → Stays g.n v.state (look_by g m v c).state × Ready q (look_by g m v c).state
   unfolding look_by
-  look_fit v (Pair i j) k = (stays_none g.n v.state, k.kept)
-  look_fit v Optimal k = (refreshed_stays v k, (refreshed_keeps g m (Ready q) ready_rebuilt ready_move v k).kept)
+  look_fit v (Some (i, j)) k = (stays_none g.n v.state, k.kept)
+  look_fit v None k = (refreshed_stays v k, (refreshed_keeps g m (Ready q) ready_rebuilt ready_move v k).kept)
 
   -- looks, reconstruction and update
   pub pass_stays : (b : List Float) (w : Full) → ReadyRun w → Stays g.n (counted_down g m w).state (passed g m b w).state
@@ -249,15 +248,15 @@ module _ (g : Given) (m : List ℕ) where
       v : Full
       v = counted_down g m w
 
-      go : (c : Choice) → pair_from g m w ≡ c → Stays g.n v.state (passed g m b w).state
-      go (Pair i j) e =
+      go : (c : Option (ℕ × ℕ)) → pair_from g m w ≡ c → Stays g.n v.state (passed g m b w).state
+      go (Some (i, j)) e =
           let u = look_at g m v in
           let x = look_fit v (chosen g m v) (counted_fit w k) in
           let l = chosen_below g m u i j (pair_look g m w i j e) in
           let few = (look_keeps g m (Ready q) ready_rebuilt ready_move v (counted_fit w k)).active in
           rw (pass_steps g m b w i j e).state
           (stays_more g.n v.state u.state _ x.0 (updated_stays q u.state b g.mode g.floor i j u.run.active l.0 l.1 (omega arith) x.1))
-      go Optimal e = elim (pass_ends g m b w e) [
+      go None e = elim (pass_ends g m b w e) [
         | inl z ↦ rw z.1 (stays_none g.n v.state)
         | inr z ↦ rw z.state (refreshed_stays v (counted_fit w k))
       ]

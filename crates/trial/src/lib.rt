@@ -14,6 +14,7 @@ use modes::Mode;
 use rho::Level;
 use solver::{Given, Run, Status};
 
+// No From: Status is the solver's, and the numbers are the trial's.
 fn code(s: Status) -> u64
     ensures { (result ≡ code_of s) × (result ≤ 2) }
 {
@@ -25,15 +26,14 @@ fn code(s: Status) -> u64
 }
 
 // 4·iterations, and 1 where the run ended by itself or 2 where it was refused.
+#[tactic(auto, unfolding(crate::specs::Trial::coded_of))]
 fn coded(r: Run) -> u64
     ensures { result ≡ coded_of r }
 {
-    let s = r.status;
-    let passes = r.iterations;
-    if passes > 10000000 {
+    if r.iterations > 10000000 {
         return 3;
     }
-    4 * (passes as u64) + code(s)
+    4 * (r.iterations as u64) + code(r.status)
 }
 
 fn put(out: &mut [f64], l: Level, obj: f64)
@@ -78,8 +78,7 @@ pub fn trial_run(
         nu: nu != 0,
     };
     let r = solver::train(f, u, y, m, b, g, budget);
-    let active = r.active;
-    let l = rho::level_by(f, y, n, active, nu != 0, false);
+    let l = rho::level_by(f, y, n, r.active, nu != 0, false);
     put(out, l, solver::objective(f, n));
     coded(r)
 }

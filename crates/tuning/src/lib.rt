@@ -8,10 +8,18 @@ use alpha::Alpha;
 use modes::Mode;
 
 // The floor is what stands for a curvature that isn't above 0.
-#[derive(Clone, Copy)]
+#[derive(Clone, Copy, Debug, PartialEq)]
 pub struct Tuning {
     pub floor: f64,
     pub mode: Mode,
+}
+
+// Every entry is told these: when a pair is good enough, whether to shrink, and how many passes at most.
+#[derive(Clone, Copy, Debug, PartialEq)]
+pub struct Settings {
+    pub eps: f64,
+    pub shrinking: bool,
+    pub budget: u64,
 }
 
 // The run of the published Rust.

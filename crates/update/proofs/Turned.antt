@@ -2,8 +2,6 @@
 --
 -- Main theorems:
 --   taken_away: a negated multiple that is added is the multiple that is taken away, bit for bit
---   kept: where a position stays at upper, or off it, the list is as it was
---   told: else its row is added to the fixed gradients, times its ceiling, negated where it was at upper
 --   turned_by_at: what a fixed gradient becomes; `turned_by_other`: all else is as it was; `length_turned_by`: the length too
 use Prim.Native.Nat.{ℕ, ◌+◌, ◌<◌}
 use native.Mathlib.Nat.{zero-add}
@@ -37,16 +35,6 @@ turned_place up w g r =
     cond (beq up (at_upper w)) g (cond up (sub binary64 g (mul binary64 w.upper r)) (add binary64 g (mul binary64 w.upper r)))
 
 module _ (p : Problem) (s : State) (k : ℕ) (up : Bool) (w : Alpha) (count : ℕ) where
-  -- ---- by its test
-
-  pub kept : beq up (at_upper w) ≡ true → s.floats ≡ turned_by p s k up w count
-  unfolding turned_by
-  kept h = rw h
-
-  pub told : beq up (at_upper w) ≡ false → row_added p s p.n (turn_signed up w.upper) k 0 count ≡ turned_by p s k up w count
-  unfolding turned_by
-  told h = rw h
-
   by_turn : (P : List Float → Type 0) → P s.floats → P (row_added p s p.n (turn_signed up w.upper) k 0 count) → P (turned_by p s k up w count)
   unfolding turned_by
   by_turn P h g = go (beq up (at_upper w))

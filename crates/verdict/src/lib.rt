@@ -6,23 +6,17 @@ ghost use Rattle.wire.specs.Wire.{digits};
 ghost use Rattle.judge.specs.Judge.{first, in_limit, entry_good, general_judged, retired_judged, c_judged, nu_judged, one_class_judged};
 
 use alpha::Alpha;
-use judge::Judged;
-
-fn wide(x: u8) -> u32
-    ensures { (result ≡ x) × (result < 256) }
-{
-    x as u32
-}
+use judge::Refusal;
 
 // The number in the four bytes from at on. It compiles to one four-byte load.
 fn half_at(m: &[u8], at: usize) -> u32
     requires { at + 4 ≤ length m.now }
     ensures { result ≡ digits m.now at 4 }
 {
-    wide(m[at])
-        + wide(m[at + 1]) * 0x100
-        + wide(m[at + 2]) * 0x1_0000
-        + wide(m[at + 3]) * 0x100_0000
+    u32::from(m[at])
+        + u32::from(m[at + 1]) * 0x100
+        + u32::from(m[at + 2]) * 0x1_0000
+        + u32::from(m[at + 3]) * 0x100_0000
 }
 
 // Whether the upper half of an entry already shows it to be small: its exponent lies below that of 2^1000. With the lowest bit of the
@@ -53,32 +47,31 @@ fn in_limit(x: f64) -> bool
 }
 
 // The exact look, entry by entry.
-fn entries_judged(m: &[u8], e: usize) -> Judged
+#[tactic(auto, using(judge::proofs::First::on, judge::proofs::First::stop, judge::proofs::First::done), unfolding(judge::specs::Judge::entry_good))]
+fn entries_judged(m: &[u8], e: usize) -> Result<(), Refusal>
     requires { (8 * e ≤ length m.now) × (e ≤ 262144) }
-    ensures { result ≡ first 3 (entry_good m.now) e 0 }
+    ensures { result ≡ first Refusal.Kernel (entry_good m.now) e 0 }
 {
-    let mut i: usize = 0;
-    while i < e {
-        if in_limit(wire::float_at(m, 8 * i)) {
-            i += 1;
-        } else {
-            return Judged::Bad(3, i);
+    for i in 0..e {
+        if !in_limit(wire::float_at(m, 8 * i)) {
+            return Err(Refusal::Kernel(i));
         }
     }
-    Judged::Fine
+    Ok(())
 }
 
 // Refusal 3. The exact look is taken only where the upper halves leave a doubt.
-fn matrix_judged(m: &[u8], n: usize) -> Judged
+fn matrix_judged(m: &[u8], n: usize) -> Result<(), Refusal>
     requires { (n ≤ 512) × (8 * (n * n) ≤ length m.now) }
-    ensures { result ≡ first 3 (entry_good m.now) (n * n) 0 }
+    ensures { result ≡ first Refusal.Kernel (entry_good m.now) (n * n) 0 }
 {
     if all_small(m, n * n) {
-        return Judged::Fine;
+        return Ok(());
     }
     entries_judged(m, n * n)
 }
 
+#[tactic(auto, unfolding(judge::specs::Judge::general_judged, judge::specs::Judge::and_then))]
 pub fn general_judged(
     n: usize,
     m: &[u8],
@@ -88,19 +81,20 @@ pub fn general_judged(
     p: &[f64],
     eps: f64,
     budget: u64,
-) -> Judged
+) -> Result<(), Refusal>
     requires { (n ≤ 512) × (8 * (n * n) ≤ length m.now) × (n ≤ length l.now) × (n ≤ length c.now) × (n ≤ length a.now) × (n ≤ length p.now) }
     ensures { result ≡ general_judged n m.now l.now c.now a.now p.now eps budget }
 {
-    let j3 = matrix_judged(m, n);
-    let j4 = judge::labels_judged(j3, l, n);
-    let j5 = judge::ceilings_judged(j4, c, n);
-    let j6 = judge::alphas_judged(j5, a, c, n);
-    let j7 = judge::linear_judged(j6, p, n);
-    let j8 = judge::eps_judged(j7, eps);
-    judge::budget_judged(j8, budget)
+    matrix_judged(m, n)?;
+    judge::labels_judged(l, n)?;
+    judge::ceilings_judged(c, n)?;
+    judge::alphas_judged(a, c, n)?;
+    judge::linear_judged(p, n)?;
+    judge::eps_judged(eps)?;
+    judge::budget_judged(budget)
 }
 
+#[tactic(auto, unfolding(judge::specs::Judge::retired_judged, judge::specs::Judge::and_then))]
 pub fn retired_judged(
     n: usize,
     m: &[u8],
@@ -113,44 +107,62 @@ pub fn retired_judged(
     shrinking: bool,
     budget: u64,
     floor: f64,
-) -> Judged
+) -> Result<(), Refusal>
     requires { (n ≤ 512) × (8 * (n * n) ≤ length m.now) × (n ≤ length l.now) × (n ≤ length c.now) × (n ≤ length a.now) × (n ≤ length p.now) × (n ≤ length r.now) }
     ensures { result ≡ retired_judged floor n m.now l.now c.now a.now p.now r.now eps shrinking budget }
 {
-    let j10 = general_judged(n, m, l, c, a, p, eps, budget);
-    let j14 = judge::floor_judged(j10, floor);
-    let j12 = judge::retired_judged(j14, r, n);
-    judge::shrinking_judged(j12, shrinking)
+    general_judged(n, m, l, c, a, p, eps, budget)?;
+    judge::floor_judged(floor)?;
+    judge::retired_judged(r, n)?;
+    judge::shrinking_judged(shrinking)
 }
 
-pub fn c_judged(n: usize, m: &[u8], l: &[u8], cpos: f64, cneg: f64, eps: f64, budget: u64) -> Judged
+#[tactic(auto, unfolding(judge::specs::Judge::c_judged, judge::specs::Judge::and_then))]
+pub fn c_judged(
+    n: usize,
+    m: &[u8],
+    l: &[u8],
+    cpos: f64,
+    cneg: f64,
+    eps: f64,
+    budget: u64,
+) -> Result<(), Refusal>
     requires { (n ≤ 512) × (8 * (n * n) ≤ length m.now) × (n ≤ length l.now) }
     ensures { result ≡ c_judged n m.now l.now cpos cneg eps budget }
 {
-    let j3 = matrix_judged(m, n);
-    let j4 = judge::labels_judged(j3, l, n);
-    let j5 = judge::costs_judged(j4, cpos, cneg);
-    let j8 = judge::eps_judged(j5, eps);
-    judge::budget_judged(j8, budget)
+    matrix_judged(m, n)?;
+    judge::labels_judged(l, n)?;
+    judge::costs_judged(cpos, cneg)?;
+    judge::eps_judged(eps)?;
+    judge::budget_judged(budget)
 }
 
-pub fn nu_judged(n: usize, m: &[u8], l: &[u8], nu: f64, eps: f64, budget: u64) -> Judged
+#[tactic(auto, unfolding(judge::specs::Judge::nu_judged, judge::specs::Judge::and_then))]
+pub fn nu_judged(
+    n: usize,
+    m: &[u8],
+    l: &[u8],
+    nu: f64,
+    eps: f64,
+    budget: u64,
+) -> Result<(), Refusal>
     requires { (n ≤ 512) × (8 * (n * n) ≤ length m.now) × (n ≤ length l.now) }
     ensures { result ≡ nu_judged n m.now l.now nu eps budget }
 {
-    let j3 = matrix_judged(m, n);
-    let j4 = judge::labels_judged(j3, l, n);
-    let j8 = judge::eps_judged(j4, eps);
-    let j9 = judge::nu_of_judged(j8, nu);
-    judge::budget_judged(j9, budget)
+    matrix_judged(m, n)?;
+    judge::labels_judged(l, n)?;
+    judge::eps_judged(eps)?;
+    judge::nu_of_judged(nu)?;
+    judge::budget_judged(budget)
 }
 
-pub fn one_class_judged(n: usize, m: &[u8], nu: f64, eps: f64, budget: u64) -> Judged
+#[tactic(auto, unfolding(judge::specs::Judge::one_class_judged, judge::specs::Judge::and_then))]
+pub fn one_class_judged(n: usize, m: &[u8], nu: f64, eps: f64, budget: u64) -> Result<(), Refusal>
     requires { (n ≤ 512) × (8 * (n * n) ≤ length m.now) }
     ensures { result ≡ one_class_judged n m.now nu eps budget }
 {
-    let j3 = matrix_judged(m, n);
-    let j8 = judge::eps_judged(j3, eps);
-    let j9 = judge::nu_of_judged(j8, nu);
-    judge::budget_judged(j9, budget)
+    matrix_judged(m, n)?;
+    judge::eps_judged(eps)?;
+    judge::nu_of_judged(nu)?;
+    judge::budget_judged(budget)
 }

@@ -1,10 +1,10 @@
 -- The votes' entry: its refusals, what it answers and what it leaves (the rule, section 'Several languages').
-use Rattle.std.specs.Prelude.{ℕ, zero, suc, ◌+◌, ◌*◌, ◌≤◌, Bool, ◌&&◌, List, ◌≡◌, eqb, leb, length}
+use Rattle.std.specs.Prelude.{ℕ, zero, suc, ◌+◌, ◌*◌, ◌≤◌, Bool, ◌&&◌, List, ◌≡◌, eqb, leb, length, ⊤, Result, Ok, Err}
 use Rattle.judge.specs.Judge.{first, need, and_then}
-use Rattle.judge.specs.declared.Judged.{Judged}
-use Rattle.judge.specs.declared.Judged.TheVariants.{Fine, Bad}
 use Rattle.wire.specs.Wire.{with_digits}
-use Rattle.votes.specs.declared.Election.{Election}
+use Rattle.votes.specs.declared.Refusal.{Refusal}
+use Rattle.votes.specs.declared.Refusal.TheVariants.{Languages, Length, Counts}
+use Rattle.votes.specs.Refusals.{votes_number, votes_index}
 use Rattle.votes.specs.Votes.{Panel, pairs_of, word_in, pair_start, votes_for, winner_to}
 
 -- 1
@@ -20,14 +20,14 @@ unfoldable pub counts_good : List ℕ → List ℕ → ℕ → Bool
 counts_good held valued p = eqb (word_in held p) (word_in valued p)
 
 -- the first that applies
-unfoldable pub votes_judged : ℕ → Panel → List ℕ → Judged
+unfoldable pub votes_judged : ℕ → Panel → List ℕ → Result ⊤ Refusal
 votes_judged k l votes =
     let n = pairs_of k in
     let all = pair_start l.held n in
-    and_then (need 1 (languages_good k))
-    (and_then (need 2 (eight_each n l.held && eight_each n l.valued))
-    (and_then (first 2 (counts_good l.held l.valued) n 0)
-    (need 2 (eight_each all l.coefficients && eight_each all l.values && eight_each n l.rhos && eight_each k votes))))
+    and_then (need Languages (languages_good k))
+    (and_then (need Length (eight_each n l.held && eight_each n l.valued))
+    (and_then (first Counts (counts_good l.held l.valued) n 0)
+    (need Length (eight_each all l.coefficients && eight_each all l.values && eight_each n l.rhos && eight_each k votes))))
 
 -- what is known of the lists where nothing is refused
 pub record Sized (k : ℕ) (l : Panel) : Type 0 where
@@ -45,23 +45,29 @@ votes_laid v b (suc x) = with_digits (votes_laid v b x) (8 * x) (v x) 8
 
 -- what the entry answers, and the list of votes
 pub record Voted : Type 0 where
-  pub out : Election
+  pub out : Result ℕ Refusal
   pub votes : List ℕ
 
-abbrev pub election : ℕ → ℕ → ℕ → Election
-election q i w = record { number = q; index = i; winner = w }
-
-abbrev pub voted : Election → List ℕ → Voted
+abbrev pub voted : Result ℕ Refusal → List ℕ → Voted
 voted e b = record { out = e; votes = b }
 
 -- refused: no winner, and the votes untouched. Else the winner's number, from 1 on
-unfoldable pub voted_by : Judged → ℕ → Panel → List ℕ → Voted
-voted_by (Bad q i) k l votes = voted (election q i 0) votes
-voted_by Fine k l votes = voted (election 0 0 (winner_to (votes_for k l) k + 1)) (votes_laid (votes_for k l) votes k)
+unfoldable pub voted_by : Result ⊤ Refusal → ℕ → Panel → List ℕ → Voted
+voted_by (Err refusal) k l votes = voted (Err refusal) votes
+voted_by (Ok x) k l votes = voted (Ok (winner_to (votes_for k l) k + 1)) (votes_laid (votes_for k l) votes k)
 
 unfoldable pub voted_on : ℕ → Panel → List ℕ → Voted
 voted_on k l votes = voted_by (votes_judged k l votes) k l votes
 
--- out with the answer's three words in its first 24 bytes
-unfoldable pub election_told : Election → List ℕ → List ℕ
-election_told e out = with_digits (with_digits (with_digits out 0 e.number 8) 8 e.index 8) 16 e.winner 8
+-- the result that C gets: 0 where there is a winner
+abbrev pub election_number : Result ℕ Refusal → ℕ
+election_number (Ok w) = 0
+election_number (Err refusal) = votes_number refusal
+
+-- out with the answer's three words in its first 24 bytes: number, index and winner, those that aren't there 0
+abbrev pub three_told : ℕ → ℕ → ℕ → List ℕ → List ℕ
+three_told q i w out = with_digits (with_digits (with_digits out 0 q 8) 8 i 8) 16 w 8
+
+unfoldable pub election_told : Result ℕ Refusal → List ℕ → List ℕ
+election_told (Ok w) out = three_told 0 0 w out
+election_told (Err refusal) out = three_told (votes_number refusal) (votes_index refusal) 0 out

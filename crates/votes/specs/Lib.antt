@@ -1,2 +1,3 @@
 pub mod Votes
+pub mod Refusals
 pub mod Entry

@@ -4,9 +4,8 @@
 ghost use Rattle.std.specs.Prelude.{cond, ◌≡◌, ℕ, ◌+◌, ◌*◌, ◌≤◌, ◌<◌, min, ltb, length, get_or};
 ghost use Rattle.judge.specs.Judge.{first};
 ghost use Rattle.votes.specs.Votes.{pairs_of, sides_after, panel, pair_start, pair_sum_to, chosen_by, votes_for, winner_to};
+ghost use Rattle.votes.specs.Refusals.{votes_number, votes_index};
 ghost use Rattle.votes.specs.Entry.{languages_good, counts_good, votes_judged, Sized, votes_laid, Voted, voted, voted_on, election_told};
-
-use judge::Judged;
 
 // The two languages of a pair, counted from 0.
 #[derive(Clone, Copy)]
@@ -15,12 +14,34 @@ pub struct Sides {
     pub second: usize,
 }
 
-// A refusal's number and index, or 0 and 0 and the winner's number, from 1 on.
-#[derive(Clone, Copy)]
-pub struct Election {
-    pub number: u64,
-    pub index: usize,
-    pub winner: usize,
+// Why there is no winner: how many languages there are, a length, or the first pair whose two counts differ.
+#[derive(Clone, Copy, Debug, PartialEq, Eq)]
+pub enum Refusal {
+    Languages,
+    Length,
+    Counts(usize),
+}
+
+impl Refusal {
+    // The number that C gets.
+    pub fn number(self) -> u64
+        ensures { result ≡ votes_number self }
+    {
+        match self {
+            Refusal::Languages => 1,
+            Refusal::Length | Refusal::Counts(_) => 2,
+        }
+    }
+
+    // 0 where there is none.
+    pub fn index(self) -> usize
+        ensures { result ≡ votes_index self }
+    {
+        match self {
+            Refusal::Counts(pair) => pair,
+            _ => 0,
+        }
+    }
 }
 
 fn are_languages(k: usize) -> bool
@@ -29,6 +50,7 @@ fn are_languages(k: usize) -> bool
     (2 <= k) & (k <= 12)
 }
 
+#[tactic(auto, using(crate::proofs::Pairs::pairs_few))]
 fn pairs_of(k: usize) -> usize
     requires { (2 ≤ k) × (k ≤ 12) }
     ensures { result ≡ pairs_of k }
@@ -36,6 +58,7 @@ fn pairs_of(k: usize) -> usize
     k * (k - 1) / 2
 }
 
+#[tactic(auto, unfolding(crate::specs::Votes::sides_after))]
 fn sides_after(k: usize, s: Sides) -> Sides
     requires { (s.first < 12) × (s.second < 12) }
     ensures { result ≡ sides_after k s }
@@ -54,6 +77,7 @@ fn sides_after(k: usize, s: Sides) -> Sides
 }
 
 // The sum over n coefficients from place `from` on.
+#[tactic(auto, unfolding(crate::specs::Votes::pair_sum_to))]
 fn pair_sum(c: &[u8], v: &[u8], from: usize, n: usize) -> f64
     requires { (8 * (from + n) ≤ length c.now) × (8 * (from + n) ≤ length v.now) }
     ensures { result ≡ pair_sum_to c.now v.now from n }
@@ -67,6 +91,7 @@ fn pair_sum(c: &[u8], v: &[u8], from: usize, n: usize) -> f64
 }
 
 // Whom a pair votes for.
+#[tactic(auto, unfolding(crate::specs::Votes::chosen_by))]
 fn side_chosen(s: Sides, sum: f64, rho: f64) -> usize
     ensures { result ≡ chosen_by s sum rho }
 {
@@ -97,19 +122,17 @@ fn tally(k: usize, c: &[u8], v: &[u8], held: &[u8], valued: &[u8], rhos: &[u8]) 
 }
 
 // The first of n pairs whose two counts differ.
-fn counts_judged(held: &[u8], valued: &[u8], n: usize) -> Judged
+#[tactic(auto, using(judge::proofs::First::on, judge::proofs::First::stop, judge::proofs::First::done), unfolding(crate::specs::Entry::counts_good))]
+fn counts_judged(held: &[u8], valued: &[u8], n: usize) -> Result<(), Refusal>
     requires { (n ≤ 66) × (8 * n ≤ length held.now) × (8 * n ≤ length valued.now) }
-    ensures { result ≡ first 2 (counts_good held.now valued.now) n 0 }
+    ensures { result ≡ first Refusal.Counts (counts_good held.now valued.now) n 0 }
 {
-    let mut p: usize = 0;
-    while p < n {
-        if wire::word_at(held, 8 * p) == wire::word_at(valued, 8 * p) {
-            p += 1;
-        } else {
-            return Judged::Bad(2, p);
+    for pair in 0..n {
+        if wire::word_at(held, 8 * pair) != wire::word_at(valued, 8 * pair) {
+            return Err(Refusal::Counts(pair));
         }
     }
-    Judged::Fine
+    Ok(())
 }
 
 // all + more, or most + 1 where that is less.
@@ -125,6 +148,7 @@ fn capped(all: usize, more: u64, most: usize) -> usize
 }
 
 // The first n counts together, or most + 1 where that is less: no sum wraps.
+#[tactic(auto, unfolding(crate::specs::Votes::pair_start))]
 fn total(held: &[u8], n: usize, most: usize) -> usize
     requires { (n ≤ 66) × (8 * n ≤ length held.now) × (most < 0x2000000000000000) }
     ensures { result ≡ min (pair_start held.now n) (most + 1) }
@@ -136,6 +160,7 @@ fn total(held: &[u8], n: usize, most: usize) -> usize
     all
 }
 
+#[tactic(auto, using(crate::proofs::Refusals::languages_within, crate::proofs::Pairs::pairs_few, crate::proofs::Refusals::capped_same), unfolding(crate::specs::Entry::votes_judged, judge::specs::Judge::and_then))]
 fn judged(
     k: usize,
     c: &[u8],
@@ -144,39 +169,32 @@ fn judged(
     valued: &[u8],
     rhos: &[u8],
     votes: &[u8],
-) -> Judged
+) -> Result<(), Refusal>
     ensures { result ≡ votes_judged k (panel c.now v.now held.now valued.now rhos.now) votes.now }
 {
-    if are_languages(k) {
-        let n = pairs_of(k);
-        if (held.len() == 8 * n) & (valued.len() == 8 * n) {
-            let j = counts_judged(held, valued, n);
-            if judge::is_bad(j) {
-                return j;
-            }
-            let all = 8 * total(held, n, c.len() / 8);
-            if (c.len() == all)
-                & (v.len() == all)
-                & (rhos.len() == 8 * n)
-                & (votes.len() == 8 * k)
-            {
-                return Judged::Fine;
-            }
-            return Judged::Bad(2, 0);
-        }
-        return Judged::Bad(2, 0);
-    }
-    Judged::Bad(1, 0)
+    judge::need(are_languages(k), Refusal::Languages)?;
+    let n = pairs_of(k);
+    judge::need(
+        (held.len() == 8 * n) & (valued.len() == 8 * n),
+        Refusal::Length,
+    )?;
+    counts_judged(held, valued, n)?;
+    let all = 8 * total(held, n, c.len() / 8);
+    let whole = (c.len() == all)
+        & (v.len() == all)
+        & (rhos.len() == 8 * n)
+        & (votes.len() == 8 * k);
+    judge::need(whole, Refusal::Length)
 }
 
 // The votes t of the first k languages, to their bytes.
+#[tactic(auto, unfolding(crate::specs::Entry::votes_laid))]
 fn lay(votes: &mut [u8], t: [u64; 12], k: usize)
     requires { (k ≤ 12) × (8 * k ≤ length votes.old) }
     ensures { votes.new ≡ votes_laid (λ x. get_or t x 0) votes.old k }
 {
     for x in 0..k {
-        let y = t[x];
-        wire::put_word(votes, 8 * x, y);
+        wire::put_word(votes, 8 * x, t[x]);
     }
 }
 
@@ -194,14 +212,13 @@ fn winner(t: [u64; 12], k: usize) -> usize
 {
     let mut w = 0;
     for x in 0..k {
-        let most = t[w];
-        let y = t[x];
-        w = better(w, most, x, y);
+        w = better(w, t[w], x, t[x]);
     }
     w
 }
 
-// The entry. What is refused leaves the votes as they were.
+// The entry: the winner's number, from 1 on. What is refused leaves the votes as they were.
+#[tactic(auto, using(crate::proofs::Refusals::judged_fine, crate::proofs::Laws::winner_below, crate::proofs::Steps::laid_same, crate::proofs::Steps::winner_same), unfolding(crate::specs::Entry::voted_on, crate::specs::Entry::voted_by))]
 pub fn vote(
     k: usize,
     c: &[u8],
@@ -210,42 +227,38 @@ pub fn vote(
     valued: &[u8],
     rhos: &[u8],
     votes: &mut [u8],
-) -> Election
+) -> Result<usize, Refusal>
     ensures { ◌≡◌ {A = Voted} (voted result votes.new)
         (voted_on k (panel c.now v.now held.now valued.now rhos.now) votes.old) }
 {
-    let j = judged(k, c, v, held, valued, rhos, votes);
-    match j {
-        Judged::Bad(number, index) => Election {
-            number,
-            index,
-            winner: 0,
-        },
-        Judged::Fine => {
-            let t = tally(k, c, v, held, valued, rhos);
-            lay(votes, t, k);
-            Election {
-                number: 0,
-                index: 0,
-                winner: winner(t, k) + 1,
-            }
-        }
+    judged(k, c, v, held, valued, rhos, votes)?;
+    let t = tally(k, c, v, held, valued, rhos);
+    lay(votes, t, k);
+    Ok(winner(t, k) + 1)
+}
+
+// What is refused where there is no room for an answer.
+pub fn short_answer(k: usize) -> Refusal
+    ensures { result ≡ cond (languages_good k) Refusal.Length Refusal.Languages }
+{
+    if are_languages(k) {
+        Refusal::Length
+    } else {
+        Refusal::Languages
     }
 }
 
-// The result where there is no room for an answer.
-pub fn short_answer(k: usize) -> u64
-    ensures { result ≡ cond (languages_good k) 2 1 }
-{
-    if are_languages(k) { 2 } else { 1 }
-}
-
 // The answer's three words.
-pub fn tell(out: &mut [u8], e: Election)
+#[tactic(auto, unfolding(crate::specs::Entry::election_told))]
+pub fn tell(out: &mut [u8], e: Result<usize, Refusal>)
     requires { 24 ≤ length out.old }
     ensures { out.new ≡ election_told e out.old }
 {
-    wire::put_word(out, 0, e.number);
-    wire::put_word(out, 8, e.index as u64);
-    wire::put_word(out, 16, e.winner as u64);
+    let (number, index, winner) = match e {
+        Ok(winner) => (0, 0, winner),
+        Err(refusal) => (refusal.number(), refusal.index(), 0),
+    };
+    wire::put_word(out, 0, number);
+    wire::put_word(out, 8, index as u64);
+    wire::put_word(out, 16, winner as u64);
 }

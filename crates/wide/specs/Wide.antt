@@ -1,10 +1,11 @@
 -- The tuned C functions: each entry under a tuning t of eight-byte words, over the host's bytes, with its own working room and an answer of 128 bytes.
-use Rattle.std.specs.Prelude.{ℕ, Bool, true, ◌&&◌, List, eqb, leb, length}
+use Rattle.std.specs.Prelude.{ℕ, Bool, true, ◌&&◌, List, eqb, leb, length, ⊤, Result}
 use Rattle.classification.specs.Entries.{general_tuned_sized, fit_c_tuned_sized, fit_nu_tuned_sized, fit_one_class_tuned_sized}
 use Rattle.hosted.specs.Hosted.{is_on, as_float, tuning_known, tuning_of, floats_of, byte_sizes, general_inputs, room, Handed, delivered, hosted_wide}
+use Rattle.judge.specs.declared.Refusal.{Refusal}
 
 -- refusals 1 and 2: `inputs` says whether every other input list is right
-abbrev pub wide_sizes : ℕ → Bool → List ℕ → List ℕ → List ℕ → List ℕ → List ℕ → ℕ
+abbrev pub wide_sizes : ℕ → Bool → List ℕ → List ℕ → List ℕ → List ℕ → List ℕ → Result ⊤ Refusal
 wide_sizes n inputs m t cr h an = byte_sizes n (inputs && tuning_known t && leb 128 (length an)) m cr h an
 
 unfoldable pub general_tuned_host : ℕ → List ℕ → List ℕ → List ℕ → List ℕ → List ℕ → ℕ → ℕ → ℕ → ℕ → List ℕ → List ℕ → List ℕ → List ℕ → Handed

@@ -5,6 +5,9 @@ ghost use Rattle.std.specs.Prelude.{◌≡◌};
 ghost use Rattle.hosted.specs.Hosted.{Handed, handed};
 ghost use Rattle.wide.specs.Wide.{general_tuned_host, c_tuned_host, nu_tuned_host, one_class_tuned_host};
 
+use tuning::Settings;
+
+#[tactic(auto, using(hosted::proofs::Serves::serves, hosted::proofs::Serves::wide_right, hosted::proofs::Serves::widened_by, hosted::proofs::Serves::lists_long), unfolding(crate::specs::Wide::general_tuned_host, hosted::specs::Hosted::hosted_wide))]
 pub fn general(
     n: usize,
     m: &[u8],
@@ -30,33 +33,22 @@ pub fn general(
         & hosted::are_floats(n, p.len())
         & hosted::is_tuning(t)
         & (128 <= answer.len());
-    let s = hosted::sized(n, lists, m.len(), cr.len(), h.len(), answer.len());
-    if s == 0 {
-        let tune = hosted::tuning_of(t);
-        let eps64 = wire::float_of(eps);
-        let k = served::general(
-            n,
-            m,
-            l,
-            c,
-            a,
-            p,
-            nurule != 0,
-            eps64,
-            shrinking != 0,
-            budget,
-            tune,
-            cr,
-            h,
-            answer,
-        );
-        hosted::pad(answer);
-        return k;
+    if let Err(refusal) = hosted::sized(n, lists, m.len(), cr.len(), h.len(), answer.len()) {
+        return hosted::turn_away_wide(answer, refusal);
     }
-    hosted::turn_away_wide(answer, s);
-    s
+    let tune = hosted::tuning_of(t);
+    let eps64 = wire::float_of(eps);
+    let settings = Settings {
+        eps: eps64,
+        shrinking: shrinking != 0,
+        budget,
+    };
+    let k = served::general(n, m, l, c, a, p, nurule != 0, settings, tune, cr, h, answer);
+    hosted::pad(answer);
+    k
 }
 
+#[tactic(auto, using(hosted::proofs::Serves::serves, hosted::proofs::Serves::wide_right, hosted::proofs::Serves::widened_by, judge::proofs::Lengths::long_enough), unfolding(crate::specs::Wide::c_tuned_host, hosted::specs::Hosted::hosted_wide))]
 pub fn c(
     n: usize,
     m: &[u8],
@@ -75,33 +67,24 @@ pub fn c(
         (c_tuned_host n m.now l.now cpos cneg eps shrinking budget t.now cr.old h.old answer.old) }
 {
     let lists = (l.len() == n) & hosted::is_tuning(t) & (128 <= answer.len());
-    let s = hosted::sized(n, lists, m.len(), cr.len(), h.len(), answer.len());
-    if s == 0 {
-        let tune = hosted::tuning_of(t);
-        let cpos64 = wire::float_of(cpos);
-        let cneg64 = wire::float_of(cneg);
-        let eps64 = wire::float_of(eps);
-        let k = served::c(
-            n,
-            m,
-            l,
-            cpos64,
-            cneg64,
-            eps64,
-            shrinking != 0,
-            budget,
-            tune,
-            cr,
-            h,
-            answer,
-        );
-        hosted::pad(answer);
-        return k;
+    if let Err(refusal) = hosted::sized(n, lists, m.len(), cr.len(), h.len(), answer.len()) {
+        return hosted::turn_away_wide(answer, refusal);
     }
-    hosted::turn_away_wide(answer, s);
-    s
+    let tune = hosted::tuning_of(t);
+    let cpos64 = wire::float_of(cpos);
+    let cneg64 = wire::float_of(cneg);
+    let eps64 = wire::float_of(eps);
+    let settings = Settings {
+        eps: eps64,
+        shrinking: shrinking != 0,
+        budget,
+    };
+    let k = served::c(n, m, l, cpos64, cneg64, settings, tune, cr, h, answer);
+    hosted::pad(answer);
+    k
 }
 
+#[tactic(auto, using(hosted::proofs::Serves::serves, hosted::proofs::Serves::wide_right, hosted::proofs::Serves::widened_by, judge::proofs::Lengths::long_enough), unfolding(crate::specs::Wide::nu_tuned_host, hosted::specs::Hosted::hosted_wide))]
 pub fn nu(
     n: usize,
     m: &[u8],
@@ -119,31 +102,23 @@ pub fn nu(
         (nu_tuned_host n m.now l.now nu eps shrinking budget t.now cr.old h.old answer.old) }
 {
     let lists = (l.len() == n) & hosted::is_tuning(t) & (128 <= answer.len());
-    let s = hosted::sized(n, lists, m.len(), cr.len(), h.len(), answer.len());
-    if s == 0 {
-        let tune = hosted::tuning_of(t);
-        let nu64 = wire::float_of(nu);
-        let eps64 = wire::float_of(eps);
-        let k = served::nu(
-            n,
-            m,
-            l,
-            nu64,
-            eps64,
-            shrinking != 0,
-            budget,
-            tune,
-            cr,
-            h,
-            answer,
-        );
-        hosted::pad(answer);
-        return k;
+    if let Err(refusal) = hosted::sized(n, lists, m.len(), cr.len(), h.len(), answer.len()) {
+        return hosted::turn_away_wide(answer, refusal);
     }
-    hosted::turn_away_wide(answer, s);
-    s
+    let tune = hosted::tuning_of(t);
+    let nu64 = wire::float_of(nu);
+    let eps64 = wire::float_of(eps);
+    let settings = Settings {
+        eps: eps64,
+        shrinking: shrinking != 0,
+        budget,
+    };
+    let k = served::nu(n, m, l, nu64, settings, tune, cr, h, answer);
+    hosted::pad(answer);
+    k
 }
 
+#[tactic(auto, using(hosted::proofs::Serves::serves, hosted::proofs::Serves::wide_right, hosted::proofs::Serves::widened_by), unfolding(crate::specs::Wide::one_class_tuned_host, hosted::specs::Hosted::hosted_wide))]
 pub fn one_class(
     n: usize,
     m: &[u8],
@@ -160,26 +135,18 @@ pub fn one_class(
         (one_class_tuned_host n m.now nu eps shrinking budget t.now cr.old h.old answer.old) }
 {
     let lists = hosted::is_tuning(t) & (128 <= answer.len());
-    let s = hosted::sized(n, lists, m.len(), cr.len(), h.len(), answer.len());
-    if s == 0 {
-        let tune = hosted::tuning_of(t);
-        let nu64 = wire::float_of(nu);
-        let eps64 = wire::float_of(eps);
-        let k = served::one_class(
-            n,
-            m,
-            nu64,
-            eps64,
-            shrinking != 0,
-            budget,
-            tune,
-            cr,
-            h,
-            answer,
-        );
-        hosted::pad(answer);
-        return k;
+    if let Err(refusal) = hosted::sized(n, lists, m.len(), cr.len(), h.len(), answer.len()) {
+        return hosted::turn_away_wide(answer, refusal);
     }
-    hosted::turn_away_wide(answer, s);
-    s
+    let tune = hosted::tuning_of(t);
+    let nu64 = wire::float_of(nu);
+    let eps64 = wire::float_of(eps);
+    let settings = Settings {
+        eps: eps64,
+        shrinking: shrinking != 0,
+        budget,
+    };
+    let k = served::one_class(n, m, nu64, settings, tune, cr, h, answer);
+    hosted::pad(answer);
+    k
 }

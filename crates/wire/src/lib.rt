@@ -6,25 +6,21 @@ ghost use Rattle.std.specs.Float.{binary64};
 ghost use Rattle.std.specs.Float.Ieee.{of_bits, to_bits};
 ghost use Rattle.wire.specs.Wire.{digits, with_digits, float_at, with_float};
 
-fn wide(x: u8) -> u64
-    ensures { (result ≡ x) × (result < 256) }
-{
-    x as u64
-}
-
 // The number in the eight bytes from at on. It compiles to one eight-byte load.
 pub fn word_at(b: &[u8], at: usize) -> u64
     requires { at + 8 ≤ length b.now }
     ensures { result ≡ digits b.now at 8 }
 {
-    wide(b[at])
-        + wide(b[at + 1]) * 0x100
-        + wide(b[at + 2]) * 0x1_0000
-        + wide(b[at + 3]) * 0x100_0000
-        + wide(b[at + 4]) * 0x1_0000_0000
-        + wide(b[at + 5]) * 0x100_0000_0000
-        + wide(b[at + 6]) * 0x1_0000_0000_0000
-        + wide(b[at + 7]) * 0x100_0000_0000_0000
+    u64::from_le_bytes([
+        b[at],
+        b[at + 1],
+        b[at + 2],
+        b[at + 3],
+        b[at + 4],
+        b[at + 5],
+        b[at + 6],
+        b[at + 7],
+    ])
 }
 
 // The eight digits of w to the bytes from at on.
@@ -32,14 +28,7 @@ pub fn put_word(b: &mut [u8], at: usize, w: u64)
     requires { at + 8 ≤ length b.old }
     ensures { b.new ≡ with_digits b.old at w 8 }
 {
-    b[at] = (w % 0x100) as u8;
-    b[at + 1] = (w / 0x100 % 0x100) as u8;
-    b[at + 2] = (w / 0x1_0000 % 0x100) as u8;
-    b[at + 3] = (w / 0x100_0000 % 0x100) as u8;
-    b[at + 4] = (w / 0x1_0000_0000 % 0x100) as u8;
-    b[at + 5] = (w / 0x100_0000_0000 % 0x100) as u8;
-    b[at + 6] = (w / 0x1_0000_0000_0000 % 0x100) as u8;
-    b[at + 7] = (w / 0x100_0000_0000_0000 % 0x100) as u8;
+    b[at..at + 8].copy_from_slice(&w.to_le_bytes());
 }
 
 // The float of a pattern, and the NaN for each pattern of a NaN.

@@ -4,11 +4,19 @@
 mod leaves;
 mod runs;
 
+use std::fmt;
+use telling::stdout::Stdout;
+
+fn told(out: &mut Stdout) -> fmt::Result {
+    leaves::told(out)?;
+    runs::pairs(out)?;
+    runs::tails(out)?;
+    runs::sizes(out)?;
+    runs::entries(out)?;
+    runs::shares(out)
+}
+
 fn main() {
-    leaves::told();
-    runs::pairs();
-    runs::tails();
-    runs::sizes();
-    runs::entries();
-    runs::shares();
+    // no write to Stdout is an error
+    let _ = told(&mut Stdout);
 }

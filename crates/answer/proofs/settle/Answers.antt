@@ -10,9 +10,8 @@ returns-then-is_stuck c = settled_stuck _ _ _ _ _ _ _ (sym c.is_stuck.ensures âˆ
 pub returns : goal.returns
 unfolding level_at crate_of home_of
 returns c =
-    let s = c in
     let b = c.read_both.ensures in
-    let w = full s.args.r s.args.f.now s.args.u.now s.args.y.now in
-    settled_fine s.args.g s.args.how s.args.l.now s.args.budget w s.args.cr.now s.args.h.now _ _ _ _
+    let w = full c.args.r c.args.f.now c.args.u.now c.args.y.now in
+    settled_fine c.args.g c.args.how c.args.l.now c.args.budget w c.args.cr.now c.args.h.now _ _ _ _
     (sym c.is_stuck.ensures âˆ™ c.if-is_stuck.false) c.level_at-v.ensures b.0 b.1
     (rw (c.rho_of.ensures, c.ratio_of.ensures, c.obj_of.ensures, c.objective.ensures, c.reason.ensures, c.support.ensures))

@@ -1,5 +1,5 @@
 use Rattle.partner.proofs.Steps.{by_label_law}
-use Rattle.state.specs.Lists.{problem, state}
+use Rattle.state.specs.Lists.{given, state}
 use Rattle.choose_c.specs.Choice.{lead_c, choice_c}
 use Rattle.choose_c.proofs.Rule.{lead_below}
 use Rattle.choose_c.proofs.select_working_set.Goals as goal
@@ -8,14 +8,14 @@ pub chosen-requires : goal.chosen-requires
 chosen-requires c =
     let z = c in
     let a = z.args in
-    let p = problem a.n a.side a.kind a.m.now in
-    let w = lead_below p (state a.f.now a.u.now a.y.now) a.active a.n z.requires.1 in
+    let p = given a.p in
+    let w = lead_below p (state a.f.now a.u.now a.y.now) a.active a.p.n z.requires.1 in
     rw c.max_violating_pair-e.ensures (z.requires.0, z.requires.1, w, w)
 
 pub returns : goal.returns
 unfolding choice_c
 returns c =
     let a = c.args in
-    let p = problem a.n a.side a.kind a.m.now in
+    let p = given a.p in
     let s = state a.f.now a.u.now a.y.now in
     rw (← by_label_law (lead_c p s a.active)) (rw c.max_violating_pair-e.ensures at c.chosen.ensures)

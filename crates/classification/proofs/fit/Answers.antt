@@ -5,16 +5,14 @@ use Rattle.classification.proofs.fit.Goals as goal
 
 pub solve-requires : goal.solve-requires
 solve-requires c =
-    let s = c in
-    let o = s.requires.1 in
+    let o = c.requires.1 in
     let r =
-    loaded_ready s.args.g s.args.m.now s.args.l.now s.args.c.now s.args.a.now s.args.p.now (state s.args.f.now s.args.u.now s.args.y.now) _ s.requires.0 c.load.ensures s.requires.2
+    loaded_ready c.args.g c.args.m.now c.args.l.now c.args.terms.ceilings.now c.args.terms.alphas.now c.args.terms.linear.now (state c.args.f.now c.args.u.now c.args.y.now) _ c.requires.0 c.load.ensures c.requires.2
     o.floats o.numbers o.bytes
     in
-    (r.0, r.1, s.requires.0, o.some, s.requires.3, s.requires.5, s.requires.4, o.crate, o.home)
+    (r.0, r.1, c.requires.0, o.some, c.requires.3, c.requires.5, c.requires.4, o.crate, o.home)
 
 pub returns : goal.returns
 returns c =
-    let s = c in
-    fitted_by s.args.g s.args.how s.args.m.now s.args.l.now s.args.c.now s.args.a.now s.args.p.now s.args.budget (lent s.args.cr.now s.args.h.now s.args.f.now s.args.u.now s.args.y.now) _ _
+    fitted_by c.args.g c.args.how c.args.m.now c.args.l.now c.args.terms.ceilings.now c.args.terms.alphas.now c.args.terms.linear.now c.args.budget (lent c.args.cr.now c.args.h.now c.args.f.now c.args.u.now c.args.y.now) _ _
     c.load.ensures c.solve.ensures

@@ -9,16 +9,14 @@ use Rattle.classification.proofs.solve.Goals as goal
 
 pub settle-out-requires : goal.settle-out-requires
 settle-out-requires c =
-    let s = c in
     let k = c.train-r.ensures in
     let within =
-    subst (λ (w : Full). NamesSamples s.args.g.n w.state.numbers) (sym k.0)
-    (trained_within s.args.g s.args.m.now s.args.b.now s.args.budget (state s.args.f.now s.args.u.now s.args.y.now) s.requires.0 s.requires.1 s.requires.2)
+    subst (λ (w : Full). NamesSamples c.args.g.n w.state.numbers) (sym k.0)
+    (trained_within c.args.g c.args.m.now c.args.b.now c.args.budget (state c.args.f.now c.args.u.now c.args.y.now) c.requires.0 c.requires.1 c.requires.2)
     in
-    (k.2.indexed.small, k.1.active, s.requires.7, s.requires.8, k.2.floats, within, k.2.labels, s.requires.6)
+    (k.2.indexed.small, k.1.active, c.requires.7, c.requires.8, k.2.floats, within, k.2.labels, c.requires.6)
 
 pub returns : goal.returns
 returns c =
-    let s = c in
-    solved_by s.args.g s.args.how s.args.m.now s.args.l.now s.args.b.now s.args.budget (lent s.args.cr.now s.args.h.now s.args.f.now s.args.u.now s.args.y.now) _ _ _
+    solved_by c.args.g c.args.how c.args.m.now c.args.l.now c.args.b.now c.args.budget (lent c.args.cr.now c.args.h.now c.args.f.now c.args.u.now c.args.y.now) _ _ _
     c.train-r.ensures.0 c.settle-out.ensures c.clear.ensures

@@ -1,6 +1,5 @@
-use mathlib.Core.Path.{◌≡◌, refl}
+use mathlib.Core.Path.{refl}
 use native.Mathlib.Numerals.{add-one}
-use native.Mathlib.Omega.{arith}
 use lib.ListN.{length-set}
 use Rattle.course.specs.Filled.{diagonal_in}
 use borrow.Author.Rules.{rules}
@@ -13,8 +12,3 @@ loop-k-init c = (search rules, refl, refl)
 pub loop-k-preserved : goal.loop-k-preserved
 unfolding diagonal_in
 loop-k-preserved c = let v = c.loop-k.invariant in (search rules, simp length-set v.1, rw (add-one, ← v.2, ← c.entry.ensures))
-
-pub returns : goal.returns
-returns c =
-    let e : c.loop-k.k ≡ c.args.g.n = omega arith in
-    rw e at c.loop-k.invariant.2

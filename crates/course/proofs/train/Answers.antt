@@ -11,7 +11,7 @@ go_on-requires c =
     let P = c.requires in
     let m = a.m.now in
     let y = a.y.now in
-    let top = ceilings_of a.cpos a.cneg in
+    let top = ceilings_of a.costs.pos a.costs.neg in
     let d = diagonal_in a.g m a.f.now a.g.n in
     let e = started_is a.g m y top a.p a.f.now _ _ _ _ c.diagonals.ensures c.begin.ensures c.gather.ensures c.before.before.before.«open».ensures in (
       ready_long P.0 (c.before.before.before.«open».auto.f ∙ c.gather.auto.f ∙ c.begin.auto.f ∙ c.diagonals.auto.f),
@@ -25,5 +25,5 @@ pub returns : goal.returns
 unfolding orderless
 returns c =
     let a = c.args in
-    let e = started_is a.g a.m.now a.y.now (ceilings_of a.cpos a.cneg) a.p a.f.now _ _ _ _ c.diagonals.ensures c.begin.ensures c.gather.ensures c.before.before.before.before.before.before.«open».ensures in
+    let e = started_is a.g a.m.now a.y.now (ceilings_of a.costs.pos a.costs.neg) a.p a.f.now _ _ _ _ c.diagonals.ensures c.begin.ensures c.gather.ensures c.before.before.before.before.before.before.«open».ensures in
     rw e at c.go_on.ensures

@@ -8,4 +8,4 @@ fit-requires c =
     (rw c.given-g.ensures, rw c.given-g.ensures s.requires.0, rw c.given-g.ensures s.requires.1, s.requires.2, rw c.given-g.ensures s.requires.3, rw c.given-g.ensures (omega (arith, o)), rw c.given-g.ensures (omega (arith, o)), rw c.given-g.ensures (omega (arith, o)))
 
 pub returns : goal.returns
-returns c = rw (← c.fill_floats.ensures, ← c.alphas_nu.ensures, ← c.given-g.ensures) c.fit.ensures
+returns c = rw (← c.fill.ensures, ← c.alphas_nu.ensures, ← c.given-g.ensures) c.fit.ensures

@@ -5,7 +5,7 @@ pub fit-requires : goal.fit-requires
 fit-requires c =
     let s = c in
     let o = s.requires.0.most in
-    (rw c.given-g.ensures, rw c.given-g.ensures s.requires.0, rw c.given-g.ensures s.requires.1, s.requires.2, rw c.given-g.ensures (omega (arith, o, c.fill_bytes.auto.d)), rw c.given-g.ensures (omega (arith, o)), rw c.given-g.ensures (omega (arith, o)), rw c.given-g.ensures (omega (arith, o)))
+    (rw c.given-g.ensures, rw c.given-g.ensures s.requires.0, rw c.given-g.ensures s.requires.1, s.requires.2, rw c.given-g.ensures (omega (arith, o, c.fill.auto.d)), rw c.given-g.ensures (omega (arith, o)), rw c.given-g.ensures (omega (arith, o)), rw c.given-g.ensures (omega (arith, o)))
 
 pub returns : goal.returns
-returns c = rw (← c.fill_bytes.ensures, ← c.fill_floats.ensures, ← c.alphas_one_class.ensures, ← c.given-g.ensures) c.fit.ensures
+returns c = rw (← c.fill.ensures, ← c.fill-2.ensures, ← c.alphas_one_class.ensures, ← c.given-g.ensures) c.fit.ensures

@@ -17,10 +17,9 @@ loop-k-init c = (search rules, refl, refl, refl)
 pub loop-k-preserved : goal.loop-k-preserved
 unfolding loaded_floats
 loop-k-preserved c =
-    let s = c in
     let v = c.loop-k.invariant in
-    let h : c.loop-k.k < s.args.n = omega arith in
-    (search rules, search rules, rw (add-one, ← v.2, kept_place s.args.r.now s.args.n s.requires.0 s.args.a.now c.loop-k.k h, silenced_place s.args.r.now s.args.n s.requires.0 s.args.p.now c.loop-k.k h, c.pick-weight.ensures, c.pick-term.ensures, v.3), v.3)
+    let h : c.loop-k.k < c.args.n = omega arith in
+    (search rules, search rules, rw (add-one, ← v.2, kept_place c.args.r.now c.args.n c.requires.0 c.args.a.now c.loop-k.k h, silenced_place c.args.r.now c.args.n c.requires.0 c.args.p.now c.loop-k.k h, c.either-weight.ensures, c.either-term.ensures, v.3), v.3)
 
 pub returns : goal.returns
 returns c = let e : c.loop-k.k ≡ c.args.n = omega arith in rw e at c.loop-k.invariant.2

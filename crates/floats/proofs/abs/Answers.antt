@@ -1,16 +1,13 @@
-use Rattle.std.proofs.Common.{T, sym, subst}
-use lib.Ieee.{of_bits}
-use Rattle.floats.proofs.Magnitude.{abs_below, abs_zero, abs_above}
+use Rattle.std.proofs.Common.{◌≡◌, false, refl, ◌∙◌}
+use Rattle.std.specs.Float.{Float, nan, inf, fin, float_with_sign}
+use Rattle.floats.specs.Helpers.{abs_of}
 use Rattle.floats.proofs.abs.Goals as goal
 
-pub returns-then-x : goal.returns-then-x
-unfolding of_bits
-returns-then-x c = abs_below c.args.x c.if-x.true
+cleared : (x : Float) → float_with_sign false x ≡ abs_of x
+unfolding float_with_sign abs_of
+cleared nan = refl
+cleared (inf s) = refl
+cleared (fin s m e) = refl
 
-pub returns-then-x-2 : goal.returns-then-x-2
-unfolding of_bits
-returns-then-x-2 c = abs_zero c.args.x (subst T (sym c.well_formed.0.1) tt) c.if-x-2.true
-
-pub returns-else-x-2 : goal.returns-else-x-2
-unfolding of_bits
-returns-else-x-2 c = abs_above c.args.x c.if-x.false c.if-x-2.false
+pub returns : goal.returns
+returns c = c.abs.ensures.value ∙ cleared c.args.x

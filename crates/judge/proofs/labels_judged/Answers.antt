@@ -1,27 +1,11 @@
-use mathlib.Core.Path.{sym, ◌∙◌}
-use native.Mathlib.Nat.{sub-zero}
+use mathlib.Core.Path.{◌∙◌}
 use native.Mathlib.Omega.{arith}
-use borrow.Author.Tests.{le-leb, lt-leb}
+use borrow.Author.Tests.{le-leb}
 use Rattle.judge.specs.Judge.{label_good}
-use Rattle.judge.proofs.First.{kept, turn, on, stop, done}
+use Rattle.judge.proofs.First.{on}
 use borrow.Author.Rules.{rules}
 use Rattle.judge.proofs.labels_judged.Goals as goal
 
-pub returns-then-is_bad : goal.returns-then-is_bad
-returns-then-is_bad c = kept _ _ (sym c.is_bad.ensures ∙ c.if-is_bad.true)
-
-pub loop-i-init : goal.loop-i-init
-loop-i-init c = (search rules, rw sub-zero)
-
 pub loop-i-preserved : goal.loop-i-preserved
 unfolding label_good
-loop-i-preserved c = (search rules, c.loop-i.invariant.1 ∙ on _ _ _ _ (omega arith) (le-leb _ _ c.if-l-i-le1.true))
-
-pub returns-else-l-i-le1 : goal.returns-else-l-i-le1
-unfolding label_good
-returns-else-l-i-le1 c =
-    turn _ _ _ (sym c.is_bad.ensures ∙ c.if-is_bad.false)
-    (c.loop-i.invariant.1 ∙ stop _ _ _ _ (omega arith) (lt-leb _ _ c.if-l-i-le1.false))
-
-pub returns : goal.returns
-returns c = turn _ _ _ (sym c.is_bad.ensures ∙ c.if-is_bad.false) (c.loop-i.invariant.1 ∙ done _ _ _ _ (omega arith))
+loop-i-preserved c = (search rules, c.loop-i.invariant.1 ∙ on _ _ _ _ (omega arith) (le-leb _ _ (omega arith)))

@@ -1,28 +1,16 @@
 use mathlib.Core.Path.{sym, ◌∙◌}
-use native.Mathlib.Nat.{sub-zero}
 use native.Mathlib.Omega.{arith}
 use lib.Ieee.{of_bits, div, neg}
 use Rattle.judge.proofs.Bits.{between}
 use Rattle.judge.specs.Judge.{linear_good}
-use Rattle.judge.proofs.First.{kept, turn, on, stop, done}
+use Rattle.judge.proofs.First.{on, stop}
 use borrow.Author.Rules.{rules}
 use Rattle.judge.proofs.linear_judged.Goals as goal
 
-pub returns-then-is_bad : goal.returns-then-is_bad
-returns-then-is_bad c = kept _ _ (sym c.is_bad.ensures ∙ c.if-is_bad.true)
-
-pub loop-i-init : goal.loop-i-init
-loop-i-init c = (search rules, rw sub-zero)
-
 pub loop-i-preserved : goal.loop-i-preserved
 unfolding linear_good of_bits div neg
-loop-i-preserved c = (search rules, c.loop-i.invariant.1 ∙ on _ _ _ _ (omega arith) (sym (between _) ∙ c.if-p-i.true))
+loop-i-preserved c = (search rules, c.loop-i.invariant.1 ∙ on _ _ _ _ (omega arith) (sym (between _) ∙ c.if-not-p-i.false))
 
-pub returns-else-p-i : goal.returns-else-p-i
+pub returns-then-not-p-i : goal.returns-then-not-p-i
 unfolding linear_good of_bits div neg
-returns-else-p-i c =
-    turn _ _ _ (sym c.is_bad.ensures ∙ c.if-is_bad.false)
-    (c.loop-i.invariant.1 ∙ stop _ _ _ _ (omega arith) (sym (between _) ∙ c.if-p-i.false))
-
-pub returns : goal.returns
-returns c = turn _ _ _ (sym c.is_bad.ensures ∙ c.if-is_bad.false) (c.loop-i.invariant.1 ∙ done _ _ _ _ (omega arith))
+returns-then-not-p-i c = sym (c.loop-i.invariant.1 ∙ stop _ _ _ _ (omega arith) (sym (between _) ∙ c.if-not-p-i.true))

@@ -16,8 +16,3 @@ loop-k-preserved c =
     let a = c.args in
     let k = c.loop-k.k in
     (search rules, search rules, rw (last_more a.f.now a.t k c.loop-k.invariant.0 a.v) (elim c.if-f-k.branch [ then-f-k w ↦ rw (w.i-is, w.if-f-k.true) | else-f-k w ↦ rw (w.i-is, w.if-f-k.false) c.loop-k.invariant.2 ]))
-
-pub returns : goal.returns
-returns c =
-    let e : c.loop-k.k ≡ c.args.e = omega arith in
-    rw e at c.loop-k.invariant.2

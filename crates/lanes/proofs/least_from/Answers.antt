@@ -1,4 +1,4 @@
-use mathlib.Core.Path.{◌≡◌, refl, ◌∙◌}
+use mathlib.Core.Path.{◌≡◌, ◌∙◌}
 use native.Mathlib.Omega.{arith}
 use lib.Ieee.{nan}
 use lib.ListN.{get_or}
@@ -6,9 +6,6 @@ use Rattle.lanes.specs.Lanes.{lane, least_from}
 use Rattle.lanes.proofs.Steps.{infinity_is, laid_more, least_same}
 use borrow.Author.Rules.{rules}
 use Rattle.lanes.proofs.least_from.Goals as goal
-
-pub loop-k-init : goal.loop-k-init
-loop-k-init c = (search rules, refl, λ j h. absurd (omega arith))
 
 pub loop-k-preserved : goal.loop-k-preserved
 loop-k-preserved c =

@@ -1,22 +1,20 @@
-use Prim.Native.Nat.{◌-◌}
-use mathlib.Core.Path.{◌≡◌}
-use native.Mathlib.Omega.{arith}
-use Rattle.lanes.specs.Lanes.{least_to}
-use Rattle.lanes.proofs.Steps.{infinity_is, to_more}
-use borrow.Author.Rules.{rules}
+use Rattle.std.proofs.Common.{◌≡◌, ◌+◌, ◌-◌, ◌<◌, length, take, drop, ap, ◌∙◌, add-one, arith}
+use Rattle.std.proofs.lemmas.List.Edits.{length-between, get_or-between}
+use lib.Ieee.{Float, nan}
+use Rattle.lanes.specs.Lanes.{lower_of, least_to}
+use Rattle.lanes.proofs.Steps.{infinity_is}
 use Rattle.lanes.proofs.least_to.Goals as goal
 
-pub loop-k-init : goal.loop-k-init
+pub loop-x-init : goal.loop-x-init
 unfolding least_to
-loop-k-init c = (search rules, search rules, let e : c.args.t - c.args.t ≡ 0 = omega arith in rw e infinity_is)
+loop-x-init c = infinity_is
 
-pub loop-k-preserved : goal.loop-k-preserved
-loop-k-preserved c =
+pub loop-x-preserved : goal.loop-x-preserved
+unfolding least_to
+loop-x-preserved c =
     let a = c.args in
-    let k = c.loop-k.k in
-    (search rules, search rules, rw (to_more a.f.now a.t k c.loop-k.invariant.0, ← c.loop-k.invariant.2) c.lower-w.ensures)
-
-pub returns : goal.returns
-returns c =
-    let e : c.loop-k.k ≡ c.args.e = omega arith in
-    rw e at c.loop-k.invariant.2
+    let k = c.loop-x.x-index in
+    let long : length (take (a.e - a.t) (drop a.t a.f.now)) ≡ a.e - a.t = length-between a.f.now a.t a.e (omega arith) in
+    let inside : a.t + k < a.e = omega arith in
+    let so_far : c.loop-x.w ≡ least_to a.f.now a.t k = c.loop-x.invariant in
+    rw (add-one, ← so_far) (c.lower-w.ensures ∙ ap (λ (x : Float). lower_of x c.loop-x.w) (get_or-between a.f.now a.t a.e k nan inside))

@@ -30,6 +30,3 @@ returns-then-r c =
     let P = placed_at a.nu a.f.now a.o a.n c.least-r.result c.end_of-e.result c.seat_in-i.result
     c.least-r.ensures.0 (rw infinity_is at c.if-r.true) c.end_of-e.ensures.0 c.seat_in-i.ensures in
     P.race
-
-pub returns : goal.returns
-returns c = c.plainly.ensures

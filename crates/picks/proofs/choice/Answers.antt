@@ -1,15 +1,8 @@
 use mathlib.Core.Bool.{true, false}
 use mathlib.Core.Path.{sym, ap, ◌∙◌}
-use native.Mathlib.Omega.{arith}
 use Rattle.extreme.specs.declared.Race.{Race}
-use Rattle.picks.proofs.Steps.{first_low, low_is, low_up, leader_is, none_stops, second_rises, nobody_follows, pair_is}
+use Rattle.picks.proofs.Steps.{first_low, low_is, leader_is, none_stops, second_rises, nobody_follows, pair_is}
 use Rattle.picks.proofs.choice.Goals as goal
-
-pub other-q-requires : goal.other-q-requires
-other-q-requires c =
-    let a = c.args in
-    let P = c.requires in
-    (omega (arith, P.0.matrix.small, P.0.square), P.0.floats, low_up a.g.nu a.g.n a.f.now c.lowest-p.result c.lowest-p.ensures)
 
 pub partner-j-requires : goal.partner-j-requires
 partner-j-requires c =
@@ -45,9 +38,6 @@ goes-requires c =
       second_rises a.g m y f c.partner-j.result c.partner-j.ensures c.if-j-n.true,
     )
 
-pub bounds-y-j : goal.bounds-y-j
-bounds-y-j c = omega (arith, c.if-j-n.true, c.requires.0.labels)
-
 pub returns-then-goes : goal.returns-then-goes
 returns-then-goes c =
     let a = c.args in
@@ -56,7 +46,7 @@ returns-then-goes c =
     let f = a.f.now in
     let hp = first_low a.g m y f c.lowest-p.result c.lowest-p.ensures in
     let hq = c.other-q.ensures ∙ low_is a.g m y f false in
-    rw c.place_of.ensures at c.paired.ensures ∙ pair_is a.g m y f (sym c.goes.ensures ∙ c.if-goes.true) c.lowest-p.result c.other-q.result hp hq c.partner-j.result c.partner-j.ensures c.if-j-n.true
+    rw c.either.ensures at c.paired.ensures ∙ pair_is a.g m y f (sym c.goes.ensures ∙ c.if-goes.true) c.lowest-p.result c.other-q.result hp hq c.partner-j.result c.partner-j.ensures c.if-j-n.true
 
 pub returns-else-goes : goal.returns-else-goes
 returns-else-goes c =

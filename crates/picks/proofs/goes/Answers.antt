@@ -11,7 +11,7 @@ returns-then-f-n c =
     let P = c.requires in
     let g = a.g in
     let e = rising_is g a.m.now a.y.now a.f.now a.p a.q P.3 P.4 a.j in
-    rw (wide_goes g a.m.now a.y.now (read_in g.nu g.n a.f.now) P.1.ups P.1.downs a.j P.2 P.5 (rw (c.value_of-v.ensures, e) at c.if-f-n.true))
+    rw (wide_goes g a.m.now a.y.now (read_in g.nu g.n a.f.now) P.1.ups P.1.downs a.j P.2 P.5 (rw (c.either-v.ensures, e) at c.if-f-n.true))
 
 pub returns : goal.returns
 returns c =

@@ -1,8 +1,7 @@
 use Prim.Native.Nat.{◌+◌, ◌*◌}
 use mathlib.Core.Bool.{true, cond}
-use mathlib.Core.Path.{◌≡◌, refl, ◌∙◌}
+use mathlib.Core.Path.{refl, ◌∙◌}
 use native.Mathlib.Numerals.{add-one}
-use native.Mathlib.Omega.{arith}
 use lib.Ieee.{nan, inf, of_bits, div, neg}
 use lib.ListN.{get_or}
 use Rattle.extreme.specs.Best.{at_least, above, best}
@@ -23,11 +22,6 @@ loop-k-preserved c =
     let k = c.loop-k.k in
     let e = best (cond a.nu above at_least) (inf true) (λ k. sought a.nu a.t (positive_in a.y.now k)) (λ k. get_or a.f.now (3 * a.n + k) nan) k in (
       search rules,
-      rw add-one (rw (c.seeks.ensures, c.more.ensures, c.loop-k.invariant.1) at c.value_of-b.ensures
+      rw add-one (rw (c.seeks.ensures, c.more.ensures, c.loop-k.invariant.1) at c.either-b.ensures
           ∙ value_weighed (cond a.nu above at_least) (sought a.nu a.t (positive_in a.y.now k)) k (get_or a.f.now (3 * a.n + k) nan) e),
     )
-
-pub returns : goal.returns
-returns c =
-    let e : c.loop-k.k ≡ c.args.n = omega arith in
-    rw e at c.loop-k.invariant.1

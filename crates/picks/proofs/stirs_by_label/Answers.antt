@@ -1,11 +1,10 @@
 use Prim.Native.Nat.{◌+◌, ◌*◌}
 use mathlib.Core.Bool.{Bool, ◌||◌}
-use mathlib.Core.Path.{◌≡◌, refl, ap}
+use mathlib.Core.Path.{refl, ap}
 use lib.Dec.{eqb}
 use lib.Ieee.{nan}
 use lib.ListN.{get_or}
 use native.Mathlib.Numerals.{add-one}
-use native.Mathlib.Omega.{arith}
 use Rattle.picks.specs.Follow.{stirred_to}
 use Rattle.picks.proofs.Steps.{by_either}
 use borrow.Author.Rules.{rules}
@@ -25,8 +24,3 @@ loop-k-preserved c =
       rw (add-one, ← c.loop-k.invariant.1, c.either-any.ensures, c.reaches-u.ensures, c.reaches-w.ensures, c.entry-e.ensures, c.entry-c.ensures)
           (ap (λ (z : Bool). c.loop-k.any || z) (by_either a.g a.m.now (eqb (get_or a.y.now j 0) 1) a.p a.q (get_or f (3 * a.g.n + j) nan) (get_or f (2 * a.g.n + j) nan) a.bar j)),
     )
-
-pub returns : goal.returns
-returns c =
-    let e : c.loop-k.k ≡ 8 = omega arith in
-    rw e at c.loop-k.invariant.1

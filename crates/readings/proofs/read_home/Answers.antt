@@ -1,23 +1,18 @@
-use mathlib.Core.Path.{◌≡◌, refl}
-use native.Mathlib.Numerals.{add-one}
-use native.Mathlib.Omega.{arith}
-use Rattle.readings.specs.Order.{scattered}
-use borrow.Author.Rules.{rules}
+use Rattle.std.proofs.Common.{◌≡◌, ◌<◌, refl, add-one, arith, length-take-le}
+use lib.Seq.{get_or-take}
+use Rattle.readings.specs.Order.{scattered, weight_in}
 use Rattle.readings.proofs.read_home.Goals as goal
 
 pub loop-k-init : goal.loop-k-init
 unfolding scattered
-loop-k-init c = (search rules, refl, refl)
+loop-k-init c = refl
 
 pub loop-k-preserved : goal.loop-k-preserved
 unfolding scattered
-loop-k-preserved c = (search rules, search rules, rw add-one (cc))
-
-pub returns : goal.returns
-returns c = let e : c.loop-k.k ≡ c.args.n = omega arith in rw e at c.loop-k.invariant.2
-
-pub offset_bounds-res-home : goal.offset_bounds-res-home
-offset_bounds-res-home c = omega (arith, c.requires.3.below c.loop-k.k (omega arith))
-
-pub bounds-res-home : goal.bounds-res-home
-bounds-res-home c = omega (arith, c.requires.3.below c.loop-k.k (omega arith))
+loop-k-preserved c =
+    let a = c.args in
+    let k = c.loop-k.k in
+    let long = length-take-le a.n a.u.now c.requires.3.long in
+    let inside : k < a.n = omega arith in
+    let so_far : c.loop-k.res ≡ scattered a.u.now (weight_in a.n a.f.now) a.res.now k = c.loop-k.invariant in
+    rw (add-one, ← so_far, get_or-take a.n a.u.now k 0 inside)

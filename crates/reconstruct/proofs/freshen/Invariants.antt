@@ -1,8 +1,7 @@
-use Prim.Native.Nat.{◌≤◌}
+use Prim.Native.Nat.{◌-◌}
 use mathlib.Core.Path.{◌≡◌}
-use lib.ListN.{length}
 use Rattle.reconstruct.specs.Reconstruct.{fresh_to}
 use Rattle.reconstruct.proofs.freshen.Given as goal
 
 abbrev pub invariant-loop-k : goal.invariant-loop-k
-invariant-loop-k l = (l.k ≤ l.count) × (length l.f ≡ length l.initial.f) × (l.f ≡ fresh_to l.n l.a l.initial.f l.k)
+invariant-loop-k l = l.f ≡ fresh_to l.n l.a l.initial.f (l.k - l.a)

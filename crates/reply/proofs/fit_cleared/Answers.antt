@@ -14,4 +14,4 @@ fit-o-requires c = let P = c.requires in (ready_taken P.0, P.1, P.2, P.3, P.4, P
 pub returns : goal.returns
 returns c =
     let P = c.requires in
-    cleared_by c.args.g.n _ _ c.args.h.now c.args.f.now _ _ c.fit-o.new.f c.args.y.now _ _ c.fit-o.ensures refl (c.fit-o.auto.f ∙ length-take-le _ _ P.0.floats) P.0.floats c.fill_floats.ensures c.fill_bytes.ensures
+    cleared_by c.args.g.n _ _ c.args.h.now c.args.f.now _ _ c.fit-o.new.f c.args.y.now _ _ c.fit-o.ensures refl (c.fit-o.auto.f ∙ length-take-le _ _ P.0.floats) P.0.floats c.fill.ensures c.fill-2.ensures

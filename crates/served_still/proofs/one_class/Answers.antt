@@ -12,4 +12,4 @@ returns c =
     let R = s.requires.0 in
     let S = room_enough _ _ _ _ _ R c.places-r.ensures.1 c.sheet-f.ensures.1 c.bytes-y.ensures.1 in
     let e = sym c.places-r.ensures.0 in
-    c.deliver.ensures ∙ delivered_same _ room _ _ _ (one_class_sized_same a.t a.n a.m.now a.eps a.budget room _ (room_long _ _ R) S a.nu) e e _ _ _ _ c.sized-o.ensures _ _ _
+    c.deliver.ensures ∙ delivered_same _ room _ _ _ (one_class_sized_same a.t a.n a.m.now a.settings.eps a.settings.budget room _ (room_long _ _ R) S a.nu) e e _ _ _ _ c.sized-o.ensures _ _ _

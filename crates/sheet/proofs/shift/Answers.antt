@@ -1,6 +1,5 @@
-use mathlib.Core.Path.{◌≡◌, refl, ◌∙◌}
+use mathlib.Core.Path.{refl, ◌∙◌}
 use native.Mathlib.Numerals.{add-one}
-use native.Mathlib.Omega.{arith}
 use Rattle.orderless.specs.Step.{shift_in}
 use borrow.Author.Rules.{rules}
 use Rattle.sheet.proofs.shift.Goals as goal
@@ -14,8 +13,3 @@ unfolding shift_in
 loop-k-preserved c =
     let v = c.loop-k.invariant in
     (search rules, c.raise.auto.f ∙ v.1, rw (add-one, ← v.2, ← c.entry-a.ensures, ← c.entry-b.ensures) c.raise.ensures)
-
-pub returns : goal.returns
-returns c =
-    let e : c.loop-k.k ≡ c.args.n = omega arith in
-    rw e at c.loop-k.invariant.2

@@ -1,10 +1,7 @@
-use mathlib.Core.Path.{refl, sym, ◌∙◌}
+use mathlib.Core.Path.{sym, ◌∙◌}
 use native.Mathlib.Omega.{arith}
 use Rattle.shrink.proofs.Laws.{fallen_kept, fallen_dropped, fallen_end}
 use Rattle.shrink.proofs.fall.Goals as goal
-
-pub loop-a-init : goal.loop-a-init
-loop-a-init c = (omega arith, refl)
 
 pub returns-then-not-drops : goal.returns-then-not-drops
 returns-then-not-drops c =

@@ -12,11 +12,6 @@ returns-then-c-gt0 c =
       s.requires.0,
     )
 
-pub shrink_down-requires : goal.shrink_down-requires
-shrink_down-requires c =
-    let s = c in
-    (s.requires.0, rw c.with_counter-q.ensures (record { active = s.requires.1.active; some = c.period_of.ensures.1; few = omega (arith, c.period_of.ensures.2) }))
-
 pub returns-then-g : goal.returns-then-g
 returns-then-g c =
     let s = c in

@@ -1,6 +1,5 @@
-use mathlib.Core.Path.{◌≡◌, refl}
+use mathlib.Core.Path.{refl}
 use native.Mathlib.Numerals.{add-one}
-use native.Mathlib.Omega.{arith}
 use Rattle.solver.specs.End.{sum_to}
 use borrow.Author.Rules.{rules}
 use Rattle.solver.proofs.objective.Goals as goal
@@ -12,8 +11,3 @@ loop-k-init c = (search rules, refl)
 pub loop-k-preserved : goal.loop-k-preserved
 unfolding sum_to
 loop-k-preserved c = (search rules, rw (add-one, ← c.loop-k.invariant.1))
-
-pub returns : goal.returns
-returns c =
-    let e : c.loop-k.k ≡ c.args.n = omega arith in
-    rw (rw e at c.loop-k.invariant.1)

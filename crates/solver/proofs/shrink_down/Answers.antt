@@ -1,3 +1,5 @@
+use Rattle.std.proofs.Common.{ℕ, ◌≤◌, Option, Some, None, IfSome}
+use Rattle.std.specs.Option.{unwrap_or}
 use mathlib.Core.Path.{sym, subst}
 use native.Mathlib.Omega.{arith}
 use Rattle.shrink.specs.Drops.{drops_at}
@@ -9,11 +11,9 @@ use Rattle.solver.specs.Run.{problem_of, full}
 use Rattle.solver.proofs.Laws.{shrunk_by}
 use Rattle.solver.proofs.shrink_down.Goals as goal
 
-pub walk_over-w-requires : goal.walk_over-w-requires
-walk_over-w-requires c =
-    let s = c in
-    let q = c.restore-q in
-    (q.ensures.1.active, s.requires.0.indexed.small, omega (arith, q.auto.f, s.requires.0.floats), s.requires.0.indexed.long, s.requires.0.labels)
+most : (w : Option ℕ) (m : ℕ) → IfSome w (λ a. a ≤ m) → unwrap_or w 0 ≤ m
+most (Some a) m h = h
+most None m h = omega arith
 
 pub returns : goal.returns
 returns c =
@@ -24,6 +24,6 @@ returns c =
     let l = c.tops_of-t.result.limits in
     let z = ready_walked p l.ends (drops_at s.args.g.n l) q.result.active q.ensures.1.active _ q.result.active q.ensures.1.active (ready_floats s.requires.0 _ q.auto.f) in (
       shrunk_by s.args.g s.args.m.now (full s.args.r s.args.f.now s.args.u.now s.args.y.now) c.tops_of-t.result _ _ _ c.tops_of-t.ensures q.ensures.0 k.ensures.0 c.after_walk.ensures,
-      rw c.after_walk.ensures (record { active = omega (arith, k.ensures.1, q.ensures.1.active); some = q.ensures.1.some; few = q.ensures.1.few }),
+      rw c.after_walk.ensures (record { active = omega (arith, most k.result _ k.ensures.1, q.ensures.1.active); some = q.ensures.1.some; few = q.ensures.1.few }),
       subst (λ (x : Walking State). Ready p x.state) (sym k.ensures.0) z.kept,
     )

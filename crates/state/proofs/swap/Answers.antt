@@ -1,8 +1,9 @@
-use Rattle.state.specs.Moving.{moved}
+use lib.Ieee.{nan}
+use native.Mathlib.Omega.{arith}
+use Rattle.std.proofs.lemmas.List.Edits.{swap_is}
+use Rattle.state.specs.Moving.{moved, swapped}
 use Rattle.state.proofs.swap.Goals as goal
 
 pub returns : goal.returns
-unfolding moved
-returns c =
-    let s = c.before.before in
-    rw (s.swap_labels.ensures, s.before.before.before.before.swap_number_fields.ensures, s.before.before.before.before.before.before.before.before.swap_float_fields.ensures)
+unfolding moved swapped
+returns c = rw (c.swap_fields.ensures nan, c.swap_fields-2.ensures 0, c.swap.ensures.after, swap_is c.args.y.now c.args.i c.args.j 0 (omega arith) (omega arith))

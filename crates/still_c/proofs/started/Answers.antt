@@ -19,7 +19,7 @@ fit_cleared-requires c =
     let a = s.args in
     let R = s.requires.0 in
     let o = R.most in
-    let q = usable_c a.n a.m.now a.budget R.most R.matrix a.l.now a.cpos a.cneg a.eps s.requires.2 in
+    let q = usable_c a.n a.m.now a.settings.budget R.most R.matrix a.l.now a.cpos a.cneg a.settings.eps s.requires.2 in
     (rw c.given-g.ensures (record { matrix = q.matrix; square = refl; labels = s.requires.1; floats = R.floats }), rw c.given-g.ensures R.some, q.budget_most, rw c.given-g.ensures (omega (arith, o)), rw c.given-g.ensures R.result, rw c.given-g.ensures R.bytes, neg-fits binary64 (of_bits binary64 0x3ff0000000000000) (of_bits-fits binary64 0x3ff0000000000000))
 
 pub returns : goal.returns
@@ -27,6 +27,6 @@ returns c =
     let s = c in
     let a = s.args in
     let R = s.requires.0 in
-    let q = c_fine a.n a.m.now a.l.now a.cpos a.cneg a.eps a.budget s.requires.2 in
-    whole_still _ Signed a.m.now a.l.now (costs_to a.cpos a.cneg a.l.now nothing a.n) nothing (evenly minus_one a.n) (ceilings_of a.cpos a.cneg) (λ k. minus_one) a.budget a.h.now a.f.now a.y.now _ refl refl
+    let q = c_fine a.n a.m.now a.l.now a.cpos a.cneg a.settings.eps a.settings.budget s.requires.2 in
+    whole_still _ Signed a.m.now a.l.now (costs_to a.cpos a.cneg a.l.now nothing a.n) nothing (evenly minus_one a.n) (ceilings_of a.cpos a.cneg) (λ k. minus_one) a.settings.budget a.h.now a.f.now a.y.now _ refl refl
     (c_lent _ R.most a.l.now refl q.labels a.cpos a.cneg q.cpos_good q.cneg_good) R.floats (rw c.given-g.ensures at c.fit_cleared.ensures)

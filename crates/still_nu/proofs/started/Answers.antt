@@ -19,7 +19,7 @@ fit_cleared-requires c =
     let a = s.args in
     let R = s.requires.0 in
     let o = R.most in
-    let q = usable_nu a.n a.m.now a.budget R.most R.matrix a.l.now a.nu a.eps s.requires.2 in
+    let q = usable_nu a.n a.m.now a.settings.budget R.most R.matrix a.l.now a.nu a.settings.eps s.requires.2 in
     (rw c.given-g.ensures (record { matrix = q.matrix; square = refl; labels = s.requires.1; floats = R.floats }), rw c.given-g.ensures R.some, q.budget_most, rw c.given-g.ensures (omega (arith, o)), rw c.given-g.ensures R.result, rw c.given-g.ensures R.bytes, of_bits-fits binary64 0)
 
 pub returns : goal.returns
@@ -27,6 +27,6 @@ returns c =
     let s = c in
     let a = s.args in
     let R = s.requires.0 in
-    let q = nu_fine a.n a.m.now a.l.now a.nu a.eps a.budget s.requires.2 in
-    whole_still _ Scaled a.m.now a.l.now (evenly one a.n) (shared_to (half a.nu a.n) a.l.now nothing a.n) nothing (ceilings_of one one) (λ k. Weight.zero) a.budget a.h.now a.f.now a.y.now _ refl refl
+    let q = nu_fine a.n a.m.now a.l.now a.nu a.settings.eps a.settings.budget s.requires.2 in
+    whole_still _ Scaled a.m.now a.l.now (evenly one a.n) (shared_to (half a.nu a.n) a.l.now nothing a.n) nothing (ceilings_of one one) (λ k. Weight.zero) a.settings.budget a.h.now a.f.now a.y.now _ refl refl
     (nu_lent _ R.most a.l.now refl q.labels) R.floats (rw (c.given-g.ensures, c.alphas_nu.ensures) at c.fit_cleared.ensures)

@@ -18,7 +18,7 @@ fit_cleared-requires c =
     let a = s.args in
     let R = s.requires.0 in
     let o = R.most in
-    let q = usable_one_class a.n a.m.now a.budget R.most R.matrix a.nu a.eps s.requires.1 in
+    let q = usable_one_class a.n a.m.now a.settings.budget R.most R.matrix a.nu a.settings.eps s.requires.1 in
     (rw c.given-g.ensures (record { matrix = q.matrix; square = refl; labels = omega (arith, o); floats = R.floats }), rw c.given-g.ensures R.some, q.budget_most, rw c.given-g.ensures (omega (arith, o)), rw c.given-g.ensures R.result, rw c.given-g.ensures R.bytes, of_bits-fits binary64 0)
 
 pub returns : goal.returns
@@ -26,5 +26,5 @@ returns c =
     let s = c in
     let a = s.args in
     let R = s.requires.0 in
-    whole_still _ Plain a.m.now (all_positive a.n) (evenly one a.n) (one_class_to a.nu a.n nothing a.n) nothing (ceilings_of one one) (λ k. Weight.zero) a.budget a.h.now a.f.now a.y.now _ refl refl
-    (one_class_lent _ R.most refl) R.floats (rw (c.given-g.ensures, c.alphas_one_class.ensures, c.fill_bytes.ensures) at c.fit_cleared.ensures)
+    whole_still _ Plain a.m.now (all_positive a.n) (evenly one a.n) (one_class_to a.nu a.n nothing a.n) nothing (ceilings_of one one) (λ k. Weight.zero) a.settings.budget a.h.now a.f.now a.y.now _ refl refl
+    (one_class_lent _ R.most refl) R.floats (rw (c.given-g.ensures, c.alphas_one_class.ensures, c.fill.ensures) at c.fit_cleared.ensures)

@@ -1,5 +1,6 @@
 use mathlib.Core.Path.{sym}
 use native.Mathlib.Omega.{arith}
+use Rattle.judge.specs.declared.Refusal.TheVariants.{Kernel}
 use Rattle.judge.specs.Judge.{entry_good}
 use Rattle.judge.proofs.First.{fine_first}
 use Rattle.judge.proofs.Lengths.{square}
@@ -10,7 +11,7 @@ all_small-requires c = (c.requires.1, square c.requires.0)
 
 pub returns-then-all_small : goal.returns-then-all_small
 returns-then-all_small c =
-    sym (fine_first 3 (entry_good c.args.m.now) _ 0 (λ j l u. c.all_small.ensures c.if-all_small.true j (omega arith)))
+    sym (fine_first Kernel (entry_good c.args.m.now) _ 0 (λ j l u. c.all_small.ensures c.if-all_small.true j (omega arith)))
 
 pub entries_judged-requires : goal.entries_judged-requires
 entries_judged-requires c = (c.requires.1, square c.requires.0)

@@ -5,4 +5,4 @@ use Rattle.wire.proofs.word_at.Goals as goal
 
 pub returns : goal.returns
 unfolding digits
-returns c = simp add-zero (omega arith)
+returns c = rw c.from_le_bytes.ensures (simp add-zero (omega arith))

@@ -1,17 +1,8 @@
-use mathlib.Core.Path.{◌≡◌, refl}
-use native.Mathlib.Numerals.{add-one}
-use native.Mathlib.Omega.{arith}
-use Rattle.recorded.specs.Agree.{same_below}
-use borrow.Author.Rules.{rules}
+use Rattle.std.proofs.Common.{rules}
+use borrow.Author.Tests.{tests}
+use Rattle.recorded.proofs.Agreed.{all_same}
+use Rattle.recorded.specs.Agree.{loose_in, loose_from}
 use Rattle.recorded.proofs.agree.answer_told.Goals as goal
 
-pub loop-k-init : goal.loop-k-init
-unfolding same_below
-loop-k-init c = (search rules, refl)
-
-pub loop-k-preserved : goal.loop-k-preserved
-unfolding same_below
-loop-k-preserved c = (search rules, rw (add-one, ← c.loop-k.invariant.1, ← c.loose-x.ensures, ← c.word.ensures, ← c.loose-y.ensures))
-
 pub returns : goal.returns
-returns c = let e : c.loop-k.k ≡ 9 = omega arith in rw e at c.loop-k.invariant.1
+returns c = all_same (loose_in c.args.z c.args.a.now) (loose_from c.args.z c.args.b.now c.args.at) 9 _ _ _ c.all.ensures.ran (cc) (λ k b q h. search (rules, tests))

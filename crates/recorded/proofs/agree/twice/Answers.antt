@@ -1,17 +1,8 @@
-use mathlib.Core.Path.{◌≡◌, refl}
-use native.Mathlib.Numerals.{add-one}
-use native.Mathlib.Omega.{arith}
-use Rattle.recorded.specs.Agree.{same_below}
-use borrow.Author.Rules.{rules}
+use Rattle.std.proofs.Common.{rules, ◌+◌}
+use borrow.Author.Tests.{tests}
+use Rattle.recorded.proofs.Agreed.{all_same}
+use Rattle.recorded.specs.Agree.{word_from}
 use Rattle.recorded.proofs.agree.twice.Goals as goal
 
-pub loop-k-init : goal.loop-k-init
-unfolding same_below
-loop-k-init c = (search rules, refl)
-
-pub loop-k-preserved : goal.loop-k-preserved
-unfolding same_below
-loop-k-preserved c = (search rules, rw (add-one, ← c.loop-k.invariant.1, ← c.word-x.ensures, ← c.word-y.ensures))
-
 pub returns : goal.returns
-returns c = let e : c.loop-k.k ≡ c.args.n = omega arith in rw e at c.loop-k.invariant.1
+returns c = all_same (word_from c.args.b.now c.args.at) (word_from c.args.b.now (c.args.at + c.args.n)) c.args.n _ _ _ c.all.ensures.ran (cc) (λ k b q h. search (rules, tests))

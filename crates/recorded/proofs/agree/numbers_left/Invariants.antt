@@ -1,7 +1,0 @@
-use Prim.Native.Nat.{◌≤◌}
-use mathlib.Core.Path.{◌≡◌}
-use Rattle.recorded.specs.Agree.{same_below, number_in, left_of, mark_of}
-use Rattle.recorded.proofs.agree.numbers_left.Given as goal
-
-abbrev pub invariant-loop-k : goal.invariant-loop-k
-invariant-loop-k l = (l.k ≤ l.n) × (l.same ≡ same_below (number_in l.u) (left_of mark_of l.used) l.k)

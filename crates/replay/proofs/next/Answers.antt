@@ -1,5 +1,0 @@
-use Rattle.std.proofs.Common.{arith, length-take}
-use Rattle.replay.proofs.next.Goals as goal
-
-pub slice_bounds-read_full-end-2 : goal.slice_bounds-read_full-end-2
-slice_bounds-read_full-end-2 c = simp length-take (omega arith)
