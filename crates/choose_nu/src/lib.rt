@@ -45,11 +45,19 @@ impl Weighing for Extremes {
         let down = partner::may_fall(pos, w);
         let rise = partner::rise_of(pos, g);
         let fall = partner::fall_of(pos, g);
-        Extremes {
-            gmaxp1: extreme::lifted(self.gmaxp1, pos & up, k, rise),
-            gmaxn1: extreme::lifted(self.gmaxn1, !pos & up, k, rise),
-            gmaxp2: extreme::lifted(self.gmaxp2, pos & down, k, fall),
-            gmaxn2: extreme::lifted(self.gmaxn2, !pos & down, k, fall),
+        // the two of its label alone: with all four a call in which every position stirs took up to a third more time
+        if pos {
+            Extremes {
+                gmaxp1: extreme::lifted(self.gmaxp1, up, k, rise),
+                gmaxp2: extreme::lifted(self.gmaxp2, down, k, fall),
+                ..self
+            }
+        } else {
+            Extremes {
+                gmaxn1: extreme::lifted(self.gmaxn1, up, k, rise),
+                gmaxn2: extreme::lifted(self.gmaxn2, down, k, fall),
+                ..self
+            }
         }
     }
 

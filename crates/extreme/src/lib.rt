@@ -11,7 +11,7 @@ pub struct Extreme {
     pub holder: Option<usize>,
 }
 
-// The same without an Option: which place stands for nobody, its owner says. An Option costs the loop over the second
+// The same without an Option: which place stands for nobody, its owner says. An enum of Option's shape cost the loop over the second
 // a dozen instructions for each position (docs/DECISIONS.md, 23).
 #[derive(Clone, Copy)]
 pub struct Race {

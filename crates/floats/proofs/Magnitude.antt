@@ -1,9 +1,16 @@
--- The magnitude of a zero. Assumes nothing.
+-- The magnitude: a cleared sign, and that of a zero. Assumes nothing.
 use Rattle.std.proofs.Common.{◌≡◌, zero, suc, ◌*◌, ◌^◌, ◌<◌, true, false, T, eqb, ℤ, pos, negsuc, sym, refl, ap, subst, mul-pos, one-mul, zero-mul, mul-one, arith, eqb→eq}
 use lib.Pow.{pow-lt}
-use lib.Ieee.{Float, nan, inf, fin, binary64, up, down, eq, fits}
+use lib.Ieee.{Float, nan, inf, fin, binary64, up, down, eq, fits, of_bits}
+use Rattle.std.specs.Float.{float_with_sign}
 use lib.Ieee.Fits.{up_pos, and_l}
 use Rattle.floats.specs.Helpers.{abs_of}
+
+pub cleared : (x : Float) → float_with_sign false x ≡ abs_of x
+unfolding float_with_sign abs_of
+cleared nan = refl
+cleared (inf s) = refl
+cleared (fin s m e) = refl
 
 -- +0
 abbrev none : Float
@@ -37,3 +44,8 @@ abs_zero (fin s (suc m) e) t h =
     let g : 0 < suc m * up e = mul-pos (omega arith) (up_pos e) in
     let z : ⊥ = omega arith in
     absurd z
+
+-- the same in the words of a body that tests for a zero
+pub zero_is : (x : Float) → fits binary64 x ≡ true → eq x (of_bits binary64 0) ≡ true → of_bits binary64 0 ≡ abs_of x
+unfolding of_bits
+zero_is x f h = abs_zero x (subst T (sym f) tt) h

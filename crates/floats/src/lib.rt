@@ -29,6 +29,7 @@ pub fn min(x: f64, y: f64) -> f64
     }
 }
 
+#[tactic(auto, using(crate::proofs::Magnitude::cleared, crate::proofs::Magnitude::zero_is))]
 pub fn abs(x: f64) -> f64
     ensures { result ≡ abs_of x }
 {

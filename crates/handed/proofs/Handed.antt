@@ -20,7 +20,7 @@ use Rattle.answer.specs.declared.Answer.{Answer}
 use Rattle.boxed.specs.Range.{In}
 use Rattle.classification.specs.Entries.{fitted, decided, general_tuned_sized, fit_c_tuned_sized, fit_c_tuned, fit_nu_tuned_sized, fit_nu_tuned, fit_one_class_tuned_sized, fit_one_class_tuned}
 use Rattle.classification.proofs.Laws.{Usable, usable_general, usable_c, usable_nu, usable_one_class}
-use Rattle.hosted.specs.Hosted.{is_on, as_float, byte_sizes, general_inputs, decoded_to, floats_of, stored_to, room, Handed, delivered_by, delivered, hosted_by, fresh_places, fresh_floats, fresh_numbers, fresh_bytes, answered_by}
+use Rattle.hosted.specs.Hosted.{is_on, as_float, byte_sizes, general_inputs, decoded_to, floats_of, stored_to, room, Handed, delivered_with, delivered_by, delivered, hosted_by, fresh_places, fresh_floats, fresh_numbers, fresh_bytes, answered_by}
 use Rattle.hosted.proofs.Serves.{Serves, inputs_right, serves}
 use Rattle.fits.proofs.Starts.{cost_at}
 use Rattle.judge.specs.Judge.{general_judged, c_judged, nu_judged, one_class_judged, floor_judged}
@@ -84,7 +84,7 @@ pub record Out (n : ℕ) (w : Whole) (cr h an : List ℕ) (o : Handed) : Type 0 
   pub home : o.home ≡ stored_to w.left.home h n
 
 pub delivered_out : (n : ℕ) (w : Whole) (cr h an : List ℕ) → (delivered n w cr h an).code ≡ 0 → Out n w cr h an (delivered n w cr h an)
-unfolding delivered delivered_by
+unfolding delivered delivered_with
 delivered_out n w cr h an = go w.out refl
   where
     go : (o : Result Answer Refusal) → w.out ≡ o → (delivered_by n o w.left.crate w.left.home cr h an).code ≡ 0

@@ -13,8 +13,8 @@ use lib.ListN.{length, get_or}
 use Rattle.altuliscia.specs.Functions.{general_host_by, retired_host, c_host_by, nu_host_by, one_class_host_by}
 use Rattle.answer.specs.Answer.{words_of}
 use Rattle.answer.specs.Lent.{Whole}
-use Rattle.judge.specs.Refusals.{number}
-use Rattle.hosted.specs.Hosted.{is_on, byte_sizes, general_inputs, floor_known, tuning_of, handed, answered_by, delivered_by, delivered, turned_away, hosted_by}
+use Rattle.judge.specs.Refusals.{number, index_of}
+use Rattle.hosted.specs.Hosted.{is_on, byte_sizes, general_inputs, floor_known, tuning_of, handed, words_to, refused_words, refused_by, delivered_with, delivered_by, delivered, turned_away_by, turned_away, hosted_by}
 use Rattle.hosted.proofs.Serves.{serves}
 use Rattle.promises.proofs.Beyond.{beyond_refl}
 use Rattle.wire.specs.Wire.{digits}
@@ -29,44 +29,43 @@ use Rattle.answer.specs.declared.Answer.{Answer}
 use Rattle.judge.specs.declared.Refusal.{Refusal}
 
 -- the answer's first word
-first_word : (o : Result Answer Refusal) (an : List ℕ) (q : ℕ) → get_or (words_of o) 0 0 ≡ q → q ≤ 14 → 72 ≤ length an → digits (answered_by o an) 0 8 ≡ q
-first_word o an q e few long = word_at (words_of o) an 9 0 long (omega arith) ∙ rw e (mod-eq_of_lt (omega arith))
+first_word : (w an : List ℕ) (q : ℕ) → get_or w 0 0 ≡ q → q ≤ 14 → 72 ≤ length an → digits (words_to w an 9) 0 8 ≡ q
+first_word w an q e few long = word_at w an 9 0 long (omega arith) ∙ rw e (mod-eq_of_lt (omega arith))
 
 module _ (n : ℕ) (cr h an : List ℕ) where
   -- handed back with a refusal's number: an answer that was written, and lists that were not
-  pub refused_leaves : (r : Refusal) → number r ≤ 14 → 72 ≤ length an → HandsBack n 72 cr h an (handed (number r) cr h (answered_by (Err r) an))
-  unfolding words_of
-  refused_leaves r few long = record {
+  pub refused_leaves : (q i : ℕ) → q ≤ 14 → 72 ≤ length an → HandsBack n 72 cr h an (handed q cr h (refused_by q i an))
+  refused_leaves q i few long = record {
     results = λ z. (refl, refl);
     crate = beyond_refl _ _ _;
     home = beyond_refl _ _ _;
-    answer = words_beyond (words_of (Err r)) an 9;
+    answer = words_beyond (refused_words q i) an 9;
     short = λ s. absurd (omega arith);
-    told = first_word (Err r) an (number r) refl few;
+    told = first_word (refused_words q i) an q refl few;
   }
 
   delivered_leaves : (w : Whole) → (delivered n w cr h an).code ≤ 14 → 72 ≤ length an → HandsBack n 72 cr h an (delivered n w cr h an)
-  unfolding delivered delivered_by words_of
+  unfolding delivered delivered_with words_of
   delivered_leaves w = go w.out
     where
       go : (o : Result Answer Refusal) → (delivered_by n o w.left.crate w.left.home cr h an).code ≤ 14 → 72 ≤ length an
           → HandsBack n 72 cr h an (delivered_by n o w.left.crate w.left.home cr h an)
-      go (Err r) few long = refused_leaves r few long
+      go (Err r) few long = refused_leaves (number r) (index_of r) few long
       go (Ok x) few long = record {
         results = λ z. absurd (z refl);
         crate = stored_beyond w.left.crate cr n;
         home = stored_beyond w.left.home h n;
         answer = words_beyond (words_of (Ok x)) an 9;
         short = λ s. absurd (omega arith);
-        told = first_word (Ok x) an 0 refl (omega arith);
+        told = first_word (words_of (Ok x)) an 0 refl (omega arith);
       }
 
   away_leaves : (q : Refusal) → number q ≤ 14 → HandsBack n 72 cr h an (handed (number q) cr h (turned_away q an))
-  unfolding turned_away
+  unfolding turned_away_by
   away_leaves q few = go (leb 72 (length an)) refl
     where
-      go : (b : Bool) → leb 72 (length an) ≡ b → HandsBack n 72 cr h an (handed (number q) cr h (cond b (answered_by (Err q) an) an))
-      go true e = refused_leaves q few (leb-true 72 (length an) e)
+      go : (b : Bool) → leb 72 (length an) ≡ b → HandsBack n 72 cr h an (handed (number q) cr h (cond b (refused_by (number q) (index_of q) an) an))
+      go true e = refused_leaves (number q) (index_of q) few (leb-true 72 (length an) e)
       go false e = record {
         results = λ z. (refl, refl);
         crate = beyond_refl _ _ _;

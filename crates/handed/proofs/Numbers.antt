@@ -11,7 +11,7 @@ use lib.ListN.{length}
 use Rattle.altuliscia.specs.Functions.{general_host_by, c_host_by, nu_host_by, one_class_host_by}
 use Rattle.alpha.specs.Weight as Weight
 use Rattle.answer.specs.Lent.{Whole}
-use Rattle.hosted.specs.Hosted.{is_on, as_float, byte_sizes, general_inputs, floats_of, host_sizes, room, delivered_by, delivered, hosted_by}
+use Rattle.hosted.specs.Hosted.{is_on, as_float, byte_sizes, general_inputs, floats_of, host_sizes, room, delivered_with, delivered_by, delivered, hosted_by}
 use Rattle.judge.specs.Refusals.{number}
 use Rattle.judge.specs.Sizes.{count_good, room_good, sizes}
 use Rattle.classification.proofs.Plain.{plain_good}
@@ -27,7 +27,7 @@ use Rattle.judge.specs.declared.Refusal.TheVariants.{Samples, Length}
 -- what holds of 0, 1 and 2, and of every number that the training is refused with, holds of the result
 module _ (P : ℕ → Type 0) (none : P 0) (one : P 1) (two : P 2) (n : ℕ) (w : Whole) (cr h an : List ℕ) (told : (q : Refusal) → w.out ≡ Err q → P (number q)) where
   delivered_code : P (delivered n w cr h an).code
-  unfolding delivered delivered_by
+  unfolding delivered delivered_with
   delivered_code = go w.out refl
     where
       go : (o : Result Answer Refusal) → w.out ≡ o → P (delivered_by n o w.left.crate w.left.home cr h an).code

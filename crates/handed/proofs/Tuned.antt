@@ -10,8 +10,8 @@ use borrow.Author.Tests.{leb-true, le-leb}
 use lib.Dec.{eqb, leb}
 use lib.ListN.{length}
 use Rattle.altuliscia.specs.Functions.{general_host_by, c_host_by, nu_host_by, one_class_host_by, general_host, c_host, nu_host, one_class_host}
-use Rattle.judge.specs.Refusals.{number}
-use Rattle.hosted.specs.Hosted.{host_sizes, byte_sizes, general_inputs, tuning_known, tuning_of, Handed, handed, answered_by, padded, turned_away, hosted_by, widened, turned_wide, hosted_wide}
+use Rattle.judge.specs.Refusals.{number, index_of}
+use Rattle.hosted.specs.Hosted.{host_sizes, byte_sizes, general_inputs, tuning_known, tuning_of, Handed, handed, refused_by, padded, turned_away_by, turned_away, hosted_by, widened, turned_wide_by, turned_wide, hosted_wide}
 use Rattle.hosted.proofs.Worked.{tuning_none}
 use Rattle.judge.specs.Sizes.{count_good, sizes}
 use Rattle.promises.specs.Fit.{Fit}
@@ -51,11 +51,11 @@ module _ (n : ℕ) (cr h an : List ℕ) where
       }
 
   away_wide : (q : Refusal) → number q ≤ 14 → HandsWide n cr h an (handed (number q) cr h (turned_wide q an))
-  unfolding turned_wide
+  unfolding turned_wide_by
   away_wide q few = go (leb 128 (length an)) refl
     where
-      go : (b : Bool) → leb 128 (length an) ≡ b → HandsWide n cr h an (handed (number q) cr h (cond b (padded (answered_by (Err q) an)) an))
-      go true e = let l = leb-true 128 (length an) e in wide_back (refused_leaves n cr h an q few (omega arith)) l
+      go : (b : Bool) → leb 128 (length an) ≡ b → HandsWide n cr h an (handed (number q) cr h (cond b (padded (refused_by (number q) (index_of q) an)) an))
+      go true e = let l = leb-true 128 (length an) e in wide_back (refused_leaves n cr h an (number q) (index_of q) few (omega arith)) l
       go false e = record {
         back = record {
           results = λ z. (refl, refl);
@@ -87,7 +87,7 @@ module _ (n : ℕ) (inputs : Bool) (m t cr h an : List ℕ) (w : Handed) where
       rw e (go (byte_sizes n inputs m cr h an))
     where
       turned : (q : Refusal) → handed (number q) cr h (turned_wide q an) ≡ widened (handed (number q) cr h (turned_away q an))
-      turned q = unfold turned_wide turned_away in rw (le-leb 128 (length an) long, le-leb 72 (length an) (omega arith))
+      turned q = unfold turned_wide_by turned_away_by in rw (le-leb 128 (length an) long, le-leb 72 (length an) (omega arith))
 
       go : (j : Result ⊤ Refusal) → hosted_wide j w cr h an ≡ widened (hosted_by j w cr h an)
       go (Ok x) = unfold hosted_wide hosted_by in refl

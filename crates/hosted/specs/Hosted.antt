@@ -1,11 +1,11 @@
 -- Lists and answers as the host's bytes (the rule, section 'What a caller lends and gets').
-use Rattle.std.specs.Prelude.{ℕ, zero, suc, ◌+◌, ◌*◌, ◌/◌, ◌%◌, Bool, false, not, ◌&&◌, cond, List, eqb, leb, Float, length, get_or, set, replicate, ⊤, Result, Ok, Err}
+use Rattle.std.specs.Prelude.{ℕ, zero, suc, ◌+◌, ◌*◌, ◌/◌, ◌%◌, Bool, false, not, ◌&&◌, cond, List, [], ◌∷◌, eqb, leb, Float, length, get_or, set, replicate, ⊤, Result, Ok, Err}
 use Rattle.std.specs.Float.{nan, binary64}
 use Rattle.std.specs.Float.Ieee.{of_bits}
 use Rattle.alpha.specs.Weight as Weight
 use Rattle.answer.specs.Answer.{words_of}
 use Rattle.answer.specs.Lent.{Lent, lent, Whole}
-use Rattle.judge.specs.Refusals.{number}
+use Rattle.judge.specs.Refusals.{number, index_of}
 use Rattle.judge.specs.Sizes.{sizes}
 use Rattle.modes.specs.declared.Mode.{Mode}
 use Rattle.modes.specs.declared.Mode.TheVariants.{Crate, Travelling}
@@ -41,6 +41,18 @@ zeroed_to out (suc k) = with_digits (zeroed_to out k) (72 + 8 * k) 0 8
 
 abbrev pub padded : List ℕ → List ℕ
 padded out = zeroed_to out 7
+
+-- a refusal's words: any number and any index
+abbrev pub refused_words : ℕ → ℕ → List ℕ
+refused_words q i = q ∷ i ∷ 0 ∷ 0 ∷ 0 ∷ 0 ∷ 0 ∷ 0 ∷ 0 ∷ []
+
+abbrev pub refused_by : ℕ → ℕ → List ℕ → List ℕ
+refused_by q i out = words_to (refused_words q i) out 9
+
+-- .. and of an outcome whose refusals are told by a number and an index
+abbrev pub words_by : {R : Type 0} → (R → ℕ) → (R → ℕ) → Result Answer R → List ℕ
+words_by numbered indexed (Ok a) = words_of (Ok a)
+words_by numbered indexed (Err refusal) = refused_words (numbered refusal) (indexed refusal)
 
 -- a flag is on when it isn't 0
 abbrev pub is_on : ℕ → Bool
@@ -123,16 +135,22 @@ abbrev pub handed : ℕ → List ℕ → List ℕ → List ℕ → Handed
 handed k cr h an = record { code = k; crate = cr; home = h; answer = an }
 
 -- the readings c and r go out only where the run is accepted
-unfoldable pub delivered_by : ℕ → Result Answer Refusal → List Float → List Float → List ℕ → List ℕ → List ℕ → Handed
-delivered_by n (Ok a) c r cr h an = handed 0 (stored_to c cr n) (stored_to r h n) (answered_by (Ok a) an)
-delivered_by n (Err refusal) c r cr h an = handed (number refusal) cr h (answered_by (Err refusal) an)
+unfoldable pub delivered_with : {R : Type 0} → (R → ℕ) → (R → ℕ) → ℕ → Result Answer R → List Float → List Float → List ℕ → List ℕ → List ℕ → Handed
+delivered_with numbered indexed n (Ok a) c r cr h an = handed 0 (stored_to c cr n) (stored_to r h n) (answered_by (Ok a) an)
+delivered_with numbered indexed n (Err refusal) c r cr h an = handed (numbered refusal) cr h (refused_by (numbered refusal) (indexed refusal) an)
+
+abbrev pub delivered_by : ℕ → Result Answer Refusal → List Float → List Float → List ℕ → List ℕ → List ℕ → Handed
+delivered_by = delivered_with number index_of
 
 unfoldable pub delivered : ℕ → Whole → List ℕ → List ℕ → List ℕ → Handed
 delivered n w cr h an = delivered_by n w.out w.left.crate w.left.home cr h an
 
 -- refusals 1 and 2: an answer that is too short stays as it is
-unfoldable pub turned_away : Refusal → List ℕ → List ℕ
-turned_away refusal an = cond (leb 72 (length an)) (answered_by (Err refusal) an) an
+unfoldable pub turned_away_by : ℕ → ℕ → List ℕ → List ℕ
+turned_away_by q i an = cond (leb 72 (length an)) (refused_by q i an) an
+
+abbrev pub turned_away : Refusal → List ℕ → List ℕ
+turned_away refusal = turned_away_by (number refusal) (index_of refusal)
 
 unfoldable pub hosted_by : Result ⊤ Refusal → Handed → List ℕ → List ℕ → List ℕ → Handed
 hosted_by (Ok x) w cr h an = w
@@ -142,8 +160,11 @@ hosted_by (Err refusal) w cr h an = handed (number refusal) cr h (turned_away re
 abbrev pub widened : Handed → Handed
 widened w = handed w.code w.crate w.home (padded w.answer)
 
-unfoldable pub turned_wide : Refusal → List ℕ → List ℕ
-turned_wide refusal an = cond (leb 128 (length an)) (padded (answered_by (Err refusal) an)) an
+unfoldable pub turned_wide_by : ℕ → ℕ → List ℕ → List ℕ
+turned_wide_by q i an = cond (leb 128 (length an)) (padded (refused_by q i an)) an
+
+abbrev pub turned_wide : Refusal → List ℕ → List ℕ
+turned_wide refusal = turned_wide_by (number refusal) (index_of refusal)
 
 unfoldable pub hosted_wide : Result ⊤ Refusal → Handed → List ℕ → List ℕ → List ℕ → Handed
 hosted_wide (Ok x) w cr h an = widened w

@@ -2,15 +2,71 @@
 #![tactic(auto)]
 
 ghost use Rattle.std.specs.Prelude.{◌≡◌, Bool, ℕ, ◌+◌, ◌*◌, ◌≤◌, ◌<◌, length};
-ghost use Rattle.answer.specs.Answer.{ratio_there, ratio_bits, reason_number, words_of};
-ghost use Rattle.judge.specs.Refusals.{number};
-ghost use Rattle.hosted.specs.Hosted.{decoded_to, stored_to, words_to, answered_by, eights, zeroed_to, padded, tuning_known, floor_known, floor_of, word_on, mode_of, tuning_of, host_sizes, Handed, handed, delivered_by, turned_away, turned_wide, fresh_places, fresh_floats, fresh_numbers, fresh_bytes, fresh_sheet};
+ghost use Rattle.answer.specs.Answer.{ratio_there, ratio_bits, reason_number};
+ghost use Rattle.judge.specs.Refusals.{number, index_of};
+ghost use Rattle.hosted.specs.Hosted.{decoded_to, stored_to, words_to, words_by, eights, zeroed_to, padded, tuning_known, floor_known, floor_of, word_on, mode_of, tuning_of, host_sizes, Handed, handed, delivered_with, turned_away_by, turned_wide_by, fresh_places, fresh_floats, fresh_numbers, fresh_bytes, fresh_sheet};
 
 use alpha::Alpha;
 use answer::{Answer, ExitReason};
 use judge::Refusal;
 use modes::Mode;
 use tuning::Tuning;
+
+// What C is told of a refusal: a number, any at all, and an index.
+pub trait Refuses: Copy {
+    ghost numbered: { Self → ℕ };
+
+    ghost indexed: { Self → ℕ };
+
+    fn number_of(self) -> u64
+        ensures { result ≡ numbered self };
+
+    fn index_of(self) -> usize
+        ensures { result ≡ indexed self };
+}
+
+impl Refuses for Refusal {
+    ghost numbered = { number };
+
+    ghost indexed = { index_of };
+
+    fn number_of(self) -> u64 {
+        self.number()
+    }
+
+    fn index_of(self) -> usize {
+        self.index()
+    }
+}
+
+// A bare number has index 0.
+impl Refuses for u64 {
+    ghost numbered = { λ q. q };
+
+    ghost indexed = { λ q. 0 };
+
+    fn number_of(self) -> u64 {
+        self
+    }
+
+    fn index_of(self) -> usize {
+        0
+    }
+}
+
+impl Refuses for (u64, usize) {
+    ghost numbered = { λ told. told.0 };
+
+    ghost indexed = { λ told. told.1 };
+
+    fn number_of(self) -> u64 {
+        self.0
+    }
+
+    fn index_of(self) -> usize {
+        self.1
+    }
+}
 
 #[tactic(auto, unfolding(crate::specs::Hosted::decoded_to))]
 pub fn decode(d: &mut [f64], b: &[u8], n: usize)
@@ -60,21 +116,15 @@ fn reason_number(r: ExitReason) -> u64
 }
 
 #[tactic(auto, unfolding(answer::specs::Answer::words_of))]
-pub fn words_of(o: Result<Answer, Refusal>) -> [u64; 9]
-    ensures { (result ≡ words_of o) × (9 ≡ length result) }
+pub fn words_of<R: Refuses>(o: Result<Answer, R>) -> [u64; 9]
+    ensures { (result ≡ words_by R.numbered R.indexed o) × (9 ≡ length result) }
 {
     match o {
-        Err(refusal) => [
-            refusal.number(),
-            refusal.index() as u64,
-            0,
-            0,
-            0,
-            0,
-            0,
-            0,
-            0,
-        ],
+        Err(refusal) => {
+            let number = refusal.number_of();
+            let index = refusal.index_of();
+            [number, index as u64, 0, 0, 0, 0, 0, 0, 0]
+        }
         Ok(a) => [
             0,
             0,
@@ -99,9 +149,9 @@ fn put_words(out: &mut [u8], w: [u64; 9])
     }
 }
 
-fn put_answer(out: &mut [u8], o: Result<Answer, Refusal>)
+fn put_answer<R: Refuses>(out: &mut [u8], o: Result<Answer, R>)
     requires { 72 ≤ length out.old }
-    ensures { out.new ≡ answered_by o out.old }
+    ensures { out.new ≡ words_to (words_by R.numbered R.indexed o) out.old 9 }
 {
     put_words(out, words_of(o));
 }
@@ -204,51 +254,57 @@ pub fn sized(
 }
 
 // What C gets of refusals 1 and 2. An answer that is too short stays as it is.
-#[tactic(auto, unfolding(crate::specs::Hosted::turned_away))]
-pub fn turn_away(answer: &mut [u8], refusal: Refusal) -> u64
-    ensures { (result ≡ number refusal) × (answer.new ≡ turned_away refusal answer.old) }
+#[tactic(auto, unfolding(crate::specs::Hosted::turned_away_by))]
+pub fn turn_away<R: Refuses>(answer: &mut [u8], refusal: R) -> u64
+    ensures { (result ≡ R.numbered refusal)
+        × (answer.new ≡ turned_away_by (R.numbered refusal) (R.indexed refusal) answer.old) }
 {
     if 72 <= answer.len() {
         put_answer(answer, Err(refusal));
     }
-    refusal.number()
+    refusal.number_of()
 }
 
 // The same, of an answer of 128 bytes.
-#[tactic(auto, unfolding(crate::specs::Hosted::turned_wide))]
-pub fn turn_away_wide(answer: &mut [u8], refusal: Refusal) -> u64
-    ensures { (result ≡ number refusal) × (answer.new ≡ turned_wide refusal answer.old) }
+#[tactic(auto, unfolding(crate::specs::Hosted::turned_wide_by))]
+pub fn turn_away_wide<R: Refuses>(answer: &mut [u8], refusal: R) -> u64
+    ensures { (result ≡ R.numbered refusal)
+        × (answer.new ≡ turned_wide_by (R.numbered refusal) (R.indexed refusal) answer.old) }
 {
     if 128 <= answer.len() {
         put_answer(answer, Err(refusal));
         pad(answer);
     }
-    refusal.number()
+    refusal.number_of()
 }
 
 // The host's lists: the readings c and r go out only where the run is accepted.
-#[tactic(auto, unfolding(crate::specs::Hosted::delivered_by))]
-pub fn deliver(
+// The answer is written last: who sees it there finds the lists whole.
+#[tactic(auto, unfolding(crate::specs::Hosted::delivered_with))]
+pub fn deliver<R: Refuses>(
     cr: &mut [u8],
     h: &mut [u8],
     answer: &mut [u8],
     c: &[f64],
     r: &[f64],
     n: usize,
-    o: Result<Answer, Refusal>,
+    o: Result<Answer, R>,
 ) -> u64
     requires { (n ≤ 512) × (n ≤ length c.now) × (n ≤ length r.now) × (8 * n ≤ length cr.old) × (8 * n ≤ length h.old) × (72 ≤ length answer.old) }
     ensures { ◌≡◌ {A = Handed} (handed result cr.new h.new answer.new)
-        (delivered_by n o c.now r.now cr.old h.old answer.old) }
+        (delivered_with R.numbered R.indexed n o c.now r.now cr.old h.old answer.old) }
 {
-    put_answer(answer, o);
     match o {
         Ok(_) => {
             store(cr, c, n);
             store(h, r, n);
+            put_answer(answer, o);
             0
         }
-        Err(refusal) => refusal.number(),
+        Err(refusal) => {
+            put_answer(answer, Err(refusal));
+            refusal.number_of()
+        }
     }
 }
 

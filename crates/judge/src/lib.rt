@@ -8,7 +8,7 @@ ghost use Rattle.judge.specs.Judge.{first, need, is_ceiling, label_good, ceiling
 
 use alpha::Alpha;
 
-// Why an input is refused, with the first offending index where there is one. The order is that of the numbers, 1 to 14.
+// Why an input is refused, with the first offending index where there is one. They stand by number; in which order they are looked for, `verdict` says.
 #[derive(Clone, Copy, Debug, PartialEq, Eq)]
 pub enum Refusal {
     Samples,

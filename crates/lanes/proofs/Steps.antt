@@ -56,12 +56,11 @@ module _ (f : List Float) (o n : ℕ) where
   pub whole_is : (j : ℕ) → 16 * j + 16 ≤ n → least_in f o n j ≡ least_from f (o + 16 * j)
   whole_is j h = rw (le-leb (16 * j + 16) n h)
 
-  -- what is left over behind the last
-  pub rest_is : least_in f o n (n / 16) ≡ least_to f (o + 16 * (n / 16)) (o + n - (o + 16 * (n / 16)))
-  rest_is =
-      let d : n < 16 * (n / 16) + 16 = omega arith in
-      let e : o + n - (o + 16 * (n / 16)) ≡ n - 16 * (n / 16) = omega arith in
-      rw (lt-leb (16 * (n / 16) + 16) n d, e)
+  -- one that isn't whole: what is left over of it
+  pub rest_is : (j : ℕ) → n < 16 * j + 16 → least_in f o n j ≡ least_to f (o + 16 * j) (o + n - (o + 16 * j))
+  rest_is j h =
+      let e : o + n - (o + 16 * j) ≡ n - 16 * j = omega arith in
+      rw (lt-leb (16 * j + 16) n h, e)
 
   module _ (j : ℕ) (nu : Bool) (v w : Float) (h : ℕ) (e : racing v h ≡ begins (least_by nu f o n j)) (q : least_in f o n j ≡ w) where
     weighed_is : least_by nu f o n (suc j) ≡ cond (cond nu below at_most v w) (held w j) (least_by nu f o n j)

@@ -141,8 +141,8 @@ pub fn gain_of(d: f64, q: f64) -> f64
     -(d * d) / q
 }
 
-// What the loop over the second asks of a lead. A lead that nobody holds has its top at minus infinity, so that nobody follows it:
-// an Option, asked at each position, is slower (docs/DECISIONS.md, 25).
+// What the loop over the second asks of a lead. A lead that nobody holds has its top at minus infinity, so that nobody follows it,
+// and whether there is a holder isn't asked at each position (docs/DECISIONS.md, 25).
 #[derive(Clone, Copy)]
 struct Lead {
     top: f64,

@@ -6,7 +6,6 @@ ghost use Rattle.recorded.specs.Record.{word_of, answer_at, told_of, used_of};
 
 use answer::Answer;
 use judge::Refusal;
-use recorded::agree::Mark;
 use recorded::{agree, layout};
 use std::fmt;
 
@@ -44,21 +43,22 @@ pub(crate) struct Lent {
     pub(crate) bytes: [u8; 1024],
 }
 
-fn marked<T: Mark, const N: usize>(x: T) -> [T; N] {
-    let mut d = [x; N];
-    agree::mark_all(&mut d);
-    d
-}
-
 impl Lent {
+    // Marked where they stand: a list that a function hands out is copied again.
     pub(crate) fn marked() -> Lent {
-        Lent {
-            crate_reading: marked(0.0),
-            home: marked(0.0),
-            floats: marked(0.0),
-            numbers: marked(0),
-            bytes: marked(0),
-        }
+        let mut lent = Lent {
+            crate_reading: [0.0; 1024],
+            home: [0.0; 1024],
+            floats: [0.0; 4096],
+            numbers: [0; 2048],
+            bytes: [0; 1024],
+        };
+        agree::mark_all(&mut lent.crate_reading);
+        agree::mark_all(&mut lent.home);
+        agree::mark_all(&mut lent.floats);
+        agree::mark_all(&mut lent.numbers);
+        agree::mark_all(&mut lent.bytes);
+        lent
     }
 }
 
@@ -99,6 +99,7 @@ fn fields(a: &[u64; 9], b: &[u8], at: usize, z: u64) -> [bool; 9]
 
 impl Differences {
     // Holds outcome o of record b, the k-th, and what the call left to the record.
+    #[tactic(auto, using(hosted::proofs::Words::words_told))]
     pub(crate) fn between(k: u64, b: &[u8], o: Result<Answer, Refusal>, lent: &Lent) -> Differences
         ensures answer { result.answer ≡ not (same_below (loose_in (word_of b.now (answer_at b.now + 9)) (words_of o)) (loose_from (word_of b.now (answer_at b.now + 9)) b.now (answer_at b.now)) 9) }
         ensures crate_reading { result.crate_reading ≡ not (same_below (pattern_in lent.now.crate_reading) (reading_of b.now (answer_at b.now + 10) (told_of b.now)) (length lent.now.crate_reading)) }

@@ -30,6 +30,7 @@ pub fn shown<'a>(reading: &'a [f64], home: &'a [f64], which: Reading, n: usize) 
 }
 
 // The crate's reading: place i of the result gets the weight at position u[i].
+#[tactic(auto, unfolding(crate::specs::Order::gathered))]
 pub fn read_crate(res: &mut [f64], f: &[f64], u: &[u64], n: usize)
     requires { (n ≤ 512) × (n ≤ length res.old) × (7 * n ≤ length f.now) × (NamesSamples n u.now) }
     ensures { res.new ≡ crate_reading n u.now (weight_in n f.now) res.old }

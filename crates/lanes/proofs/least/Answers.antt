@@ -32,7 +32,7 @@ returns-then-less-2 c =
     let l = c.loop-sixteen in
     let e : l.sixteen ≡ a.n / 16 = omega arith in
     let g = rw e at l.invariant.1 in
-    let q = rest_is a.f.now a.o a.n ∙ sym c.least_to-w.ensures in
+    let q = rest_is a.f.now a.o a.n (a.n / 16) (omega arith) ∙ sym c.least_to-w.ensures in
     (turn_taken a.f.now a.o a.n (a.n / 16) a.nu l.v c.least_to-w.result l.h g q (sym c.less-2.ensures ∙ c.if-less-2.true), omega arith)
 
 pub returns-else-less-2 : goal.returns-else-less-2
@@ -41,5 +41,5 @@ returns-else-less-2 c =
     let l = c.loop-sixteen in
     let e : l.sixteen ≡ a.n / 16 = omega arith in
     let g = rw e at l.invariant.1 in
-    let q = rest_is a.f.now a.o a.n ∙ sym c.least_to-w.ensures in
+    let q = rest_is a.f.now a.o a.n (a.n / 16) (omega arith) ∙ sym c.least_to-w.ensures in
     (turn_kept a.f.now a.o a.n (a.n / 16) a.nu l.v c.least_to-w.result l.h g q (sym c.less-2.ensures ∙ c.if-less-2.false), omega arith)
