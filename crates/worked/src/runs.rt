@@ -224,7 +224,7 @@ fn size<const N: usize, const M: usize>(out: &mut Stdout) -> fmt::Result
     writeln!(out, "identity matrix, n {N}, labels 1 0 1 0 ..")?;
     let mut l = [0u8; N];
     room::alternate(&mut l);
-    // made where it is lent: handed out by a function, two megabytes would stand on the stack twice
+    // filled where it is lent: handed on by `identity`, its two megabytes would stand on the stack twice
     let mut m: [u8; M] = room::zeros();
     room::identity(&mut m, N);
     c(out, N, &m, &l, 1.0, false, 1000)
